@@ -1,0 +1,10 @@
+pub mod Examples
+pub mod Magnitudes
+pub mod Bisection
+pub mod Normalising
+pub mod IntegerRoots
+pub mod Rounding
+pub mod Midpoints
+pub mod Values
+pub mod RootLaws
+pub mod Differences

@@ -1,0 +1,79 @@
+-- Laws of `root` on floats: where it is positive, finite, and a value of the format. Assumes nothing.
+use mathlib.Core.Path.{_≡_, refl, sym, subst}
+use mathlib.Core.Bool.{true, false}
+use Prim.Native.Nat.{ℕ, zero, suc, _*_, _^_, _<_, zero-le}
+use native.Mathlib.Nat.{lt-of-le-of-lt, mul-pos, zero-mul, zero-lt-suc}
+use native.Mathlib.Omega.{arith}
+use lib.Dec.{T, ltb→lt, lt→ltb}
+use lib.Ieee.{Float, nan, inf, fin, binary64, up, down, lt, toBits, ofBits, fits}
+use lib.Ieee.Fits.{up-pos, nan-fits, inf-fits}
+use lib.Ieee.Bits.{ofBits-fits}
+use lib.Ieee.Exact.{HasValue}
+use lib.Ieee.Positive as ieee
+use lib.Ieee.Positive.{first-pos, positive-of-value}
+use Rattle.binary64.specs.Kinds.{finite, positive}
+use Rattle.binary64.specs.Root.{magnitude, rootBits, root}
+use Rattle.binary64.proofs.Magnitudes.{magnitude-pos}
+use Rattle.binary64.proofs.Midpoints.{root-range}
+use Rattle.binary64.proofs.Values.{pattern-value, bits-range}
+
+-- ---- greater than zero and finite
+
+pub positive-finite : (x : Float) → T (finite x) → T (positive x) → T (ieee.positive x)
+unfolding positive lt
+positive-finite nan f h = absurd f
+positive-finite (inf s) f h = absurd f
+positive-finite (fin true m e) f h = absurd h
+positive-finite (fin false m e) f h =
+    lt→ltb 0 m (first-pos m (up e) (first-pos (m * up e) 1 (lt-of-le-of-lt zero-le (ltb→lt (0 * 1 * down e) (m * up e * 1) h))))
+
+pub positive-of-finite : (x : Float) → T (ieee.positive x) → T (positive x)
+unfolding positive lt
+positive-of-finite nan h = absurd h
+positive-of-finite (inf s) h = absurd h
+positive-of-finite (fin true m e) h = absurd h
+positive-of-finite (fin false m e) h =
+    lt→ltb (0 * 1 * down e) (m * up e * 1)
+    (subst (λ (y : ℕ). y < m * up e * 1) (sym (zero-mul (down e))) (mul-pos (mul-pos (ltb→lt 0 m h) (up-pos e)) (zero-lt-suc 0)))
+
+finite-of-value : (x : Float) (a c : ℕ) → HasValue x false a c → T (finite x)
+finite-of-value nan a c h = absurd h
+finite-of-value (inf s) a c h = absurd h
+finite-of-value (fin s m e) a c h = tt
+
+-- ---- the root of a positive finite value
+
+pub root-is : (x : Float) → T (ieee.positive x) → root x ≡ ofBits binary64 (rootBits (toBits binary64 x))
+unfolding root
+root-is nan h = absurd h
+root-is (inf s) h = absurd h
+root-is (fin true m e) h = absurd h
+root-is (fin false zero e) h = absurd h
+root-is (fin false (suc m) e) h = refl
+
+module _ (x : Float) (f : T (fits binary64 x)) (g : T (finite x)) (h : T (positive x)) where
+  -- its value, in units of 2 ^ -1074
+  pub root-value : HasValue (root x) false (magnitude (rootBits (toBits binary64 x))) (2 ^ 1074)
+  root-value =
+      let p = positive-finite x g h in
+      let r = bits-range x f p in
+      subst (λ (y : Float). HasValue y false (magnitude (rootBits (toBits binary64 x))) (2 ^ 1074)) (sym (root-is x p))
+      (pattern-value (rootBits (toBits binary64 x)) (root-range (toBits binary64 x) (r .0) (r .1) .1))
+
+  pub root-finite : T (finite (root x))
+  root-finite = finite-of-value (root x) (magnitude (rootBits (toBits binary64 x))) (2 ^ 1074) root-value
+
+  pub root-positive : T (positive (root x))
+  root-positive =
+      let r = bits-range x f (positive-finite x g h) in
+      let b : 0 < rootBits (toBits binary64 x) = omega (arith, root-range (toBits binary64 x) (r .0) (r .1) .0) in
+      positive-of-finite (root x) (positive-of-value (root x) (magnitude (rootBits (toBits binary64 x))) (2 ^ 1074) root-value (magnitude-pos b))
+
+pub root-fits : (x : Float) → T (fits binary64 x) → T (fits binary64 (root x))
+unfolding root
+root-fits nan h = nan-fits binary64
+root-fits (inf true) h = nan-fits binary64
+root-fits (inf false) h = inf-fits binary64 false
+root-fits (fin s zero e) h = h
+root-fits (fin true (suc m) e) h = nan-fits binary64
+root-fits (fin false (suc m) e) h = ofBits-fits binary64 (rootBits (toBits binary64 (fin false (suc m) e)))

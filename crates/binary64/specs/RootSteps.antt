@@ -1,0 +1,24 @@
+-- What the steps of the square root promise, on whole numbers.
+use Prim.Native.Nat.{ℕ, _+_, _*_, _^_, _≤_, _<_}
+use mathlib.Core.Path.{_≡_}
+use mathlib.Core.Bool.{Bool}
+use lib.Dec.{eqb}
+use Rattle.binary64.specs.Root.{magnitude, scaled, rootBits}
+
+-- a significand of 53 digits and an exponent for pattern p's value on the scale of `scaled`
+pub record Normalised (p significand exponent : ℕ) : Type 0 where
+  pub significand-ge : 2 ^ 52 ≤ significand
+  pub significand-lt : significand < 2 ^ 53
+  pub exponent-ge : 1024 ≤ exponent
+  pub exponent-le : exponent ≤ 3121
+  pub value : scaled p ≡ significand * 2 ^ exponent
+
+-- n's root, rounded down
+pub record IntegerRoot (n root remainder : ℕ) : Type 0 where
+  pub sum : root * root + remainder ≡ n
+  pub least : remainder ≤ 2 * root
+
+-- the root's pattern; it is exact where the square of its value is the argument, on the scale of the squares of half units
+pub record RootFound (p root : ℕ) (exact : Bool) : Type 0 where
+  pub bits : root ≡ rootBits p
+  pub exactly : exact ≡ eqb ((2 * magnitude (rootBits p)) ^ 2) (scaled p)

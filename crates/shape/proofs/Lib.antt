@@ -1,0 +1,8 @@
+-- Laws of the places that specs/ defines, which the proofs of this crate and of those above it cite.
+pub mod Parts
+pub mod Columns
+pub mod Rows
+pub mod Blocks
+pub mod Bijections
+pub mod Bounds
+pub mod Examples

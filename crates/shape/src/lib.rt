@@ -1,0 +1,124 @@
+// The shape of a matrix: its order and block length, with their bounds and the places of its entries.
+ghost use mathlib.Core.Path.{_≡_};
+ghost use mathlib.Core.Bool.{_&&_};
+ghost use Prim.Native.Nat.{_≤_, _<_};
+ghost use lib.Dec.{leb, ltb};
+ghost use Rattle.shape.specs.Bounds.{maxOrder, maxBlock, maxRhs};
+ghost use Rattle.shape.specs.Places.{triangle, packedPlace, blockOf, blockStart, width, placeInBlock, blockedPlace, blockWork};
+ghost use Rattle.shape.specs.Layouts.{Entry};
+
+// Any numbers: the calls examine them.
+#[repr(C)]
+pub struct Shape {
+    pub order: usize,
+    pub block: usize,
+}
+
+impl Shape {
+    pub const MAX_ORDER: usize = 4000;
+
+    pub const MAX_BLOCK: usize = 200;
+
+    pub const MAX_RHS: usize = 1000;
+
+    pub fn new(order: usize, block: usize) -> Self
+        ensures { λ r. ⌜ (r .order ≡ order) × (r .block ≡ block) ⌝ }
+    {
+        Self { order, block }
+    }
+
+    pub fn order_in_bounds(self) -> bool
+        ensures { λ r. ⌜ r ≡ leb (self .order) maxOrder ⌝ }
+    {
+        self.order <= Self::MAX_ORDER
+    }
+
+    pub fn block_in_bounds(self) -> bool
+        ensures { λ r. ⌜ r ≡ (ltb 0 (self .block) && leb (self .block) maxBlock) ⌝ }
+    {
+        (0 < self.block) & (self.block <= Self::MAX_BLOCK)
+    }
+
+    pub fn rhs_in_bounds(m: usize) -> bool
+        ensures { λ r. ⌜ r ≡ leb m maxRhs ⌝ }
+    {
+        m <= Self::MAX_RHS
+    }
+
+    // The values of the triangle.
+    pub fn triangle(self) -> usize
+        requires { ⌜ self .order ≤ maxOrder ⌝ }
+        ensures { λ r. ⌜ r ≡ triangle (self .order) ⌝ }
+    {
+        let n = self.order;
+        n * (n + 1) / 2
+    }
+
+    // The place of entry (i, j) in packed order. The product is even, so the division is exact.
+    pub fn packed_place(self, i: usize, j: usize) -> usize
+        requires { ⌜ self .order ≤ maxOrder ⌝ }
+        requires { ⌜ Entry (self .order) i j ⌝ }
+        ensures { λ r. ⌜ r ≡ packedPlace (self .order) i j ⌝ }
+    {
+        i + j * (2 * self.order - j - 1) / 2
+    }
+
+    // The first column of the block column that holds column j.
+    pub fn block_of(self, j: usize) -> usize
+        requires { ⌜ 0 < self .block ⌝ }
+        ensures { λ r. ⌜ r ≡ blockOf (self .block) j ⌝ }
+    {
+        self.block * (j / self.block)
+    }
+
+    // Where the block column that begins with column c starts, in both orders. The product is even, so the division is exact.
+    pub fn block_start(self, c: usize) -> usize
+        requires { ⌜ self .order ≤ maxOrder ⌝ }
+        requires { ⌜ c ≤ self .order ⌝ }
+        ensures { λ r. ⌜ r ≡ blockStart (self .order) c ⌝ }
+    {
+        c * (2 * self.order - c + 1) / 2
+    }
+
+    // The columns of the block column that begins with column c.
+    pub fn block_width(self, c: usize) -> usize
+        requires { ⌜ c ≤ self .order ⌝ }
+        ensures { λ r. ⌜ r ≡ width (self .order) (self .block) c ⌝ }
+    {
+        let left = self.order - c;
+        if self.block < left { self.block } else { left }
+    }
+
+    // The place of column s of row r in a block column of width w, from the block column's start.
+    pub fn place_in_block(w: usize, r: usize, s: usize) -> usize
+        requires { ⌜ r ≤ maxOrder ⌝ }
+        requires { ⌜ s ≤ r ⌝ }
+        ensures { λ p. ⌜ p ≡ placeInBlock w r s ⌝ }
+    {
+        if r < w {
+            r * (r + 1) / 2 + s
+        } else {
+            w * (w + 1) / 2 + (r - w) * w + s
+        }
+    }
+
+    // The place of entry (i, j) in blocked order.
+    pub fn blocked_place(self, i: usize, j: usize) -> usize
+        requires { ⌜ self .order ≤ maxOrder ⌝ }
+        requires { ⌜ 0 < self .block ⌝ }
+        requires { ⌜ Entry (self .order) i j ⌝ }
+        ensures { λ r. ⌜ r ≡ blockedPlace (self .order) (self .block) i j ⌝ }
+    {
+        let c = self.block_of(j);
+        let w = self.block_width(c);
+        self.block_start(c) + Self::place_in_block(w, i - c, j - c)
+    }
+
+    // The work memory that a rearranger and the blocked factor need. The first block column is the widest.
+    pub fn block_work(self) -> usize
+        requires { ⌜ self .order ≤ maxOrder ⌝ }
+        ensures { λ r. ⌜ r ≡ blockWork (self .order) (self .block) ⌝ }
+    {
+        self.order * self.block_width(0)
+    }
+}

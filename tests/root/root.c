@@ -1,0 +1,218 @@
+// The square root of crate binary64 against the processor's, bit for bit, on fixed patterns. Each group of patterns is one test.
+// Where a root is a NaN the other must be a NaN too; the logic's floats have one NaN, so their bits are not compared.
+#include <emmintrin.h>
+#include <inttypes.h>
+#include <stdbool.h>
+#include <stdint.h>
+#include <stdio.h>
+#include <string.h>
+
+double metsovary_square_root(double x);
+
+enum {
+    FRACTION = 52,     // binary digits of the fraction
+    FIELD_MAX = 2047,  // the exponent field of infinities and NaNs
+    SAMPLES = 4096,    // random fractions for each exponent
+    NEAR = 64,         // neighbours on either side of a power of two
+    SHOWN = 10,        // differences that are printed
+};
+
+static const uint64_t SIGN = UINT64_C(1) << 63;
+static const uint64_t LEADING = UINT64_C(1) << FRACTION;
+static const uint64_t INFINITE = (uint64_t)FIELD_MAX << FRACTION;
+static const uint64_t QUIET_NAN = UINT64_C(0xFFF) << (FRACTION - 1);
+
+static uint64_t bits_of(double x) {
+    uint64_t bits;
+    memcpy(&bits, &x, sizeof bits);
+    return bits;
+}
+
+static double value_of(uint64_t bits) {
+    double x;
+    memcpy(&x, &bits, sizeof x);
+    return x;
+}
+
+static uint64_t pattern(uint64_t field, uint64_t fraction) { return field << FRACTION | fraction; }
+
+static bool is_nan(uint64_t bits) { return (bits & ~SIGN) > INFINITE; }
+
+static bool same(uint64_t a, uint64_t b) { return a == b || (is_nan(a) && is_nan(b)); }
+
+// The instruction sqrtsd, which IEEE 754 has rounded to nearest.
+static uint64_t processor_root(uint64_t x) {
+    __m128d v = _mm_set_sd(value_of(x));
+    return bits_of(_mm_cvtsd_f64(_mm_sqrt_sd(v, v)));
+}
+
+static uint64_t library_root(uint64_t x) { return bits_of(metsovary_square_root(value_of(x))); }
+
+// The generator splitmix64.
+static uint64_t random_state = 1;
+
+static uint64_t random_bits(unsigned count) {
+    uint64_t z = random_state += UINT64_C(0x9E3779B97F4A7C15);
+    z = (z ^ z >> 30) * UINT64_C(0xBF58476D1CE4E5B9);
+    z = (z ^ z >> 27) * UINT64_C(0x94D049BB133111EB);
+    return (z ^ z >> 31) >> (64 - count);
+}
+
+static unsigned long patterns, differing, shown;
+
+static void expect(uint64_t x, uint64_t root) {
+    uint64_t library = library_root(x), processor = processor_root(x);
+    patterns++;
+    if (same(library, root) && same(processor, root)) return;
+    differing++;
+    if (shown++ < SHOWN)
+        printf("root: %016" PRIX64 " gives %016" PRIX64 ", the processor's root is %016" PRIX64 ", expected %016" PRIX64 "\n", x, library, processor, root);
+}
+
+static void compare(uint64_t x) { expect(x, processor_root(x)); }
+
+static void compare_range(uint64_t first, uint64_t last) {
+    for (uint64_t x = first; x <= last; x++) compare(x);
+}
+
+// ---- the groups
+
+// Document 01's roots by bits.
+static void worked_examples(void) {
+    expect(UINT64_C(0x0000000000000001), UINT64_C(0x1E60000000000000));
+    expect(UINT64_C(0x3FEFFFFFFFFFFFFF), UINT64_C(0x3FEFFFFFFFFFFFFF));
+    expect(UINT64_C(0x4000000000000000), UINT64_C(0x3FF6A09E667F3BCD));
+}
+
+static void zeros_and_infinities(void) {
+    expect(0, 0);
+    expect(SIGN, SIGN);
+    expect(INFINITE, INFINITE);
+    expect(SIGN | INFINITE, QUIET_NAN);
+}
+
+// Quiet and signalling, of both signs.
+static void nans(void) {
+    for (uint64_t sign = 0; sign < 2; sign++) {
+        for (unsigned digit = 0; digit < FRACTION; digit++) expect(sign << 63 | INFINITE | UINT64_C(1) << digit, QUIET_NAN);
+        for (unsigned k = 0; k < 16 * SAMPLES; k++) expect(sign << 63 | INFINITE | random_bits(FRACTION) | 1, QUIET_NAN);
+    }
+}
+
+static void negative_values(void) {
+    for (unsigned digit = 0; digit < FRACTION; digit++) expect(SIGN | UINT64_C(1) << digit, QUIET_NAN);
+    for (uint64_t field = 0; field < FIELD_MAX; field++) {
+        expect(SIGN | pattern(field, LEADING - 1), QUIET_NAN);
+        for (unsigned k = 0; k < NEAR; k++) expect(SIGN | pattern(field, random_bits(FRACTION) | 1), QUIET_NAN);
+    }
+}
+
+// All below 2^16 units, then random ones for each leading digit; a unit is the smallest positive value.
+static void subnormal_values(void) {
+    compare_range(1, 0xFFFF);
+    for (unsigned digit = 16; digit < FRACTION; digit++)
+        for (unsigned k = 0; k < SAMPLES; k++) compare(UINT64_C(1) << digit | random_bits(digit));
+}
+
+static void normal_values(void) {
+    for (uint64_t field = 1; field < FIELD_MAX; field++)
+        for (unsigned k = 0; k < SAMPLES; k++) compare(pattern(field, random_bits(FRACTION)));
+}
+
+static void near_subnormal_powers_of_two(void) {
+    for (unsigned digit = 0; digit < FRACTION; digit++) {
+        uint64_t power = UINT64_C(1) << digit;
+        compare_range(power > NEAR ? power - NEAR : 0, power + NEAR);
+    }
+}
+
+static void near_normal_powers_of_two(void) {
+    for (uint64_t field = 1; field < FIELD_MAX; field++) compare_range(pattern(field, 0) - NEAR, pattern(field, 0) + NEAR);
+    compare_range(INFINITE - NEAR, INFINITE - 1);
+}
+
+// Squares that need no rounding, with their roots: of the whole numbers below 2^20, and r · 2^e of random r below 2^26 for each e
+// whose square is in range. A square of 52 digits times 4^e is exact for e from -537, where its last digit is the smallest unit.
+static void for_each_square(void (*visit)(uint64_t square, uint64_t root)) {
+    for (uint64_t r = 1; r < UINT64_C(1) << 20; r++) visit(bits_of((double)(r * r)), bits_of((double)r));
+    for (int e = -537; e <= 486; e++) {
+        double scale = value_of(pattern((uint64_t)(e + 1023), 0));
+        for (unsigned k = 0; k < SAMPLES / 8; k++) {
+            uint64_t r = random_bits(26) | 1;
+            visit(bits_of((double)(r * r) * scale * scale), bits_of((double)r * scale));
+        }
+    }
+}
+
+static void exact_squares(void) { for_each_square(expect); }
+
+static void compare_neighbours(uint64_t square, uint64_t root) {
+    (void)root;
+    compare(square - 1);
+    compare(square + 1);
+}
+
+static void near_exact_squares(void) { for_each_square(compare_neighbours); }
+
+// The odd m below 2^54 with m² ≡ rest modulo 2^55, for rest ≡ 1 modulo 8, digit by digit.
+static uint64_t root_modulo(uint64_t rest) {
+    uint64_t m = 1;
+    for (unsigned digit = 3; digit < 55; digit++)
+        if ((m * m - rest) >> digit & 1) m += UINT64_C(1) << (digit - 1);
+    return m;
+}
+
+// The root of s = (m² - rest) / 2^54 is next to m / 2^27, a midpoint, since m is odd and has 54 digits: below it if rest > 0, else above.
+// The pattern is that of s times a random power of 4. An odd s of 54 digits has none.
+static void expect_near_midpoint(uint64_t m, int64_t rest) {
+    uint64_t s = (uint64_t)(((unsigned __int128)m * m - (unsigned __int128)(__int128)rest) >> 54);
+    uint64_t field = 1 + 2 * (random_bits(32) % 1023);
+    uint64_t root = (field + 1023) / 2;
+    uint64_t significand = (rest > 0 ? m - 1 : m + 1) / 2;
+    if (s >= 2 * LEADING) {
+        if (s % 2 != 0) return;
+        s /= 2;
+        field++;
+    }
+    expect(pattern(field, s - LEADING), (root << FRACTION) + (significand - LEADING));
+}
+
+// The values whose roots are nearest to midpoints: those whose s · 2^54 differs from m² by less than 2^19.
+static void near_squares_of_midpoints(void) {
+    const uint64_t top = UINT64_C(1) << 53;
+    for (int64_t rest = 1 - (1 << 19); rest <= 1 << 19; rest += 8) {
+        uint64_t even = root_modulo((uint64_t)rest), odd = even ^ top;
+        expect_near_midpoint(even & top ? even : 2 * top - even, rest);
+        expect_near_midpoint(odd & top ? odd : 2 * top - odd, rest);
+    }
+}
+
+static const struct {
+    const char *name;
+    void (*run)(void);
+} groups[] = {
+    {"worked examples", worked_examples},
+    {"zeros and infinities", zeros_and_infinities},
+    {"NaNs", nans},
+    {"negative values", negative_values},
+    {"subnormal values", subnormal_values},
+    {"normal values, every exponent", normal_values},
+    {"subnormal powers of two and their neighbours", near_subnormal_powers_of_two},
+    {"normal powers of two and their neighbours", near_normal_powers_of_two},
+    {"exact squares", exact_squares},
+    {"neighbours of exact squares", near_exact_squares},
+    {"neighbours of squares of midpoints", near_squares_of_midpoints},
+};
+
+int main(void) {
+    const size_t count = sizeof groups / sizeof groups[0];
+    size_t failed = 0;
+    for (size_t g = 0; g < count; g++) {
+        patterns = differing = 0;
+        groups[g].run();
+        printf("root: %s: %lu patterns, %lu differ\n", groups[g].name, patterns, differing);
+        failed += differing != 0;
+    }
+    printf("%zu passed, %zu failed\n", count - failed, failed);
+    return failed != 0;
+}
