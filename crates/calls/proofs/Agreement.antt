@@ -1,0 +1,345 @@
+-- Demand 3: the plain and the blocked pipeline agree. Both factors see the matrix free of its layout, both solvers the same factor, and the way back
+-- to packed order writes the same memory. An accepted factor is finite, so rule 7 names no place that a layout decides. Assumes nothing.
+use Prim.Native.Nat.{ℕ, zero, suc, _+_, _-_, _*_, _≤_, _<_, min}
+use native.Mathlib.Nat.{mul-le-mul-left}
+use native.Mathlib.Omega.{arith}
+use mathlib.Core.Path.{_≡_, refl, sym, ap, ap₂, _∙_, subst}
+use mathlib.Core.Bool.{Bool, true, false, cond, not}
+use mathlib.Core.List.{List, [], _∷_}
+use lib.Dec.{T}
+use lib.ListN.{length, getD}
+use lib.Ieee.{Float, nan, binary64, fits}
+use lib.Ieee.Bits.{is-true}
+use Rattle.binary64.specs.Kinds.{finite, positive, zero64}
+use Rattle.shape.specs.Bounds.{maxOrder, maxBlock, maxRhs}
+use Rattle.shape.specs.Places.{triangle, blockOf, blockWork}
+use Rattle.shape.specs.Layouts.{Entry, Bijection}
+use Rattle.calls.specs.declared.CallResult.{CallResult}
+use Rattle.calls.specs.Sequences.{all}
+use Rattle.calls.specs.declared.Layout.{Layout}
+use Rattle.calls.specs.declared.Layout.the-variants.{Packed, Blocked}
+use Rattle.calls.specs.Triangles.{Triangle, entry, placeOf, height, load, store}
+use Rattle.calls.specs.declared.Call.{Call}
+use Rattle.calls.specs.declared.Call.the-variants.{Rearranger, Factor, Solver}
+use Rattle.calls.specs.Refusals.{neededWork, success, accepted, refusal, refuseIf, firstRefusal, lowestRefusal, columnRules, rule5, rule6, rule7, rule8, rule9}
+use Rattle.calls.specs.Calls.{Done, Solved, clear, rearrange, moved, columnsVerdict, finished, factored, factorize, factorChecks, solverChecks, rhsVerdict, solutions, solved, solve}
+use Rattle.calls.specs.Pipelines.{Ended, plainPipeline, blockedPipeline, Start, Agreement, PipelinesAgree}
+use Rattle.calls.proofs.Sequences.{all-at, all-of}
+use Rattle.calls.proofs.Triangles.{Shaped, shaped-load, entry-load, length-store, store-same, load-store, store-whole}
+use Rattle.calls.proofs.Refusals.{first-passes, lowest-same, lowest-accepted, finite-rule}
+use Rattle.calls.proofs.Columns.{columns, shaped-columns, FiniteMatrix, columns-finite}
+use Rattle.calls.proofs.Checks.{Sizes, sizes-pass, rearranger-checks, factor-checks, rule5-passes, rule6-passes, length-clear}
+use Rattle.calls.proofs.Rearranging.{layout-bijection, length-moved, load-moved}
+
+cond-both : {A : Type 0} (P : A → Type 0) (c : Bool) (x y : A) → P x → P y → P (cond c x y)
+cond-both P true x y p q = p
+cond-both P false x y p q = q
+
+-- ---- free of any layout
+
+diagonalRule : ℕ → Triangle → CallResult
+diagonalRule n l = lowestRefusal (λ j. refuseIf (not (positive (entry l j j))) (refusal 9 j zero64)) n
+
+freeChecks : ℕ → Triangle → List Float → CallResult
+freeChecks n l rhs = firstRefusal (rule8 rhs ∷ diagonalRule n l ∷ [])
+
+abbrev freeDone : ℕ → ℕ → Triangle → List Float → List Float → Solved
+freeDone n m l rhs work =
+    let verdict = rhsVerdict n m l rhs in
+    record { result = verdict; rhs = solutions n l (cond (accepted verdict) m (verdict .place)) rhs; work = clear n work }
+
+abbrev freeLeft : ℕ → Triangle → List Float → List Float → Solved
+freeLeft n l rhs work = record { result = freeChecks n l rhs; rhs = rhs; work = work }
+
+freeSolved : ℕ → ℕ → Triangle → List Float → List Float → Solved
+freeSolved n m l rhs work = cond (accepted (freeChecks n l rhs)) (freeDone n m l rhs work) (freeLeft n l rhs work)
+
+-- the work memory decides neither the result nor the right-hand sides, and keeps its length
+module _ (n m : ℕ) (l : Triangle) (rhs w : List Float) where
+  free-same :
+      (w′ : List Float) → (freeSolved n m l rhs w .result ≡ freeSolved n m l rhs w′ .result) × (freeSolved n m l rhs w .rhs ≡ freeSolved n m l rhs w′ .rhs)
+  unfolding freeSolved
+  free-same w′ = go (accepted (freeChecks n l rhs))
+    where
+      go :
+          (b : Bool) →
+          (cond b (freeDone n m l rhs w) (freeLeft n l rhs w) .result ≡ cond b (freeDone n m l rhs w′) (freeLeft n l rhs w′) .result)
+          × (cond b (freeDone n m l rhs w) (freeLeft n l rhs w) .rhs ≡ cond b (freeDone n m l rhs w′) (freeLeft n l rhs w′) .rhs)
+      go true = (refl, refl)
+      go false = (refl, refl)
+
+  free-work : n ≤ length w → length (freeSolved n m l rhs w .work) ≡ length w
+  unfolding freeSolved
+  free-work h = go (accepted (freeChecks n l rhs))
+    where
+      go : (b : Bool) → length (cond b (freeDone n m l rhs w) (freeLeft n l rhs w) .work) ≡ length w
+      go true = length-clear n w h
+      go false = refl
+
+-- ---- one layout
+
+-- stored finite columns are finite memory
+stored-finite :
+    (place : ℕ → ℕ → ℕ) (n : ℕ) → Bijection place n → (l : Triangle) → Shaped n n l →
+    ((i j : ℕ) → Entry n i j → T (finite (entry l i j))) → (memory : List Float) → length memory ≡ triangle n →
+    T (all finite (store place l memory))
+stored-finite place n bij l s f memory whole =
+    all-of finite (store place l memory) nan
+    (λ p q.
+    let from : (i : ℕ) × (j : ℕ) × Entry n i j × (place i j ≡ p) = bij .onto p (omega (arith, length-store place n bij l memory)) in
+    let e : Entry n (from .0) (from .1) = from .2 in
+    let inside : from .1 < n = omega (arith, e .lower, e .inside) in
+    subst (λ x. T (finite (getD (store place l memory) x nan))) (from .3)
+    (subst (λ x. T (finite x)) (sym (store-same place n bij l n s memory (omega arith) (from .0) (from .1) nan e inside)) (f (from .0) (from .1) e)))
+
+module _ (n b m : ℕ) (order : n ≤ maxOrder) (low : 1 ≤ b) (high : b ≤ maxBlock) (count : m ≤ maxRhs) (layout : Layout) where
+  abbrev place : ℕ → ℕ → ℕ
+  place = placeOf layout n b
+
+  module _ (l : Triangle) (s : Shaped n n l) (f : (i j : ℕ) → Entry n i j → T (finite (entry l i j))) (memory : List Float) (whole : length memory ≡ triangle n) where
+    diagonal-same : rule9 place n (store place l memory) ≡ diagonalRule n l
+    unfolding rule9 diagonalRule
+    diagonal-same =
+        lowest-same (λ j. refuseIf (not (positive (getD (store place l memory) (place j j) nan))) (refusal 9 j zero64))
+        (λ j. refuseIf (not (positive (entry l j j))) (refusal 9 j zero64)) n
+        (λ j h.
+        ap (λ x. refuseIf (not (positive x)) (refusal 9 j zero64))
+        (store-same place n (layout-bijection layout n b low) l n s memory (omega arith) j j nan (record { lower = omega arith; inside = h }) h))
+
+    solver-checks : (rhs : List Float) (wl : ℕ) → length rhs ≡ n * m → n ≤ wl → solverChecks layout n b m (store place l memory) rhs wl ≡ freeChecks n l rhs
+    unfolding solverChecks freeChecks
+    solver-checks rhs wl hr hw =
+        let bij : Bijection place n = layout-bijection layout n b low in
+        let mat : List Float = store place l memory in
+        sizes-pass (Solver layout) n b (length mat) wl (rule5 m ∷ rule6 n m (length rhs) ∷ rule7 mat ∷ rule8 rhs ∷ rule9 place n mat ∷ [])
+        (record { order = order; blockLow = low; blockHigh = high; matrix = length-store place n bij l memory ∙ whole; work = hw })
+        ∙ first-passes (rule5 m) (rule6 n m (length rhs) ∷ rule7 mat ∷ rule8 rhs ∷ rule9 place n mat ∷ []) (rule5-passes m count)
+        ∙ first-passes (rule6 n m (length rhs)) (rule7 mat ∷ rule8 rhs ∷ rule9 place n mat ∷ []) (rule6-passes n m (length rhs) hr)
+        ∙ first-passes (rule7 mat) (rule8 rhs ∷ rule9 place n mat ∷ []) (finite-rule 7 mat (stored-finite place n bij l s f memory whole))
+        ∙ ap (λ r. firstRefusal (rule8 rhs ∷ r ∷ [])) diagonal-same
+
+    solve-free : (rhs work : List Float) → length rhs ≡ n * m → n ≤ length work → solve layout n b m (store place l memory) rhs work ≡ freeSolved n m l rhs work
+    unfolding solve solved freeSolved
+    solve-free rhs work hr hw =
+        rw (solver-checks rhs (length work) hr hw, load-store place n (layout-bijection layout n b low) l memory s (omega arith)) refl
+
+  -- the factor of a memory that holds the finite matrix a
+  factor-free :
+      (a : Triangle) (memory work : List Float) → load place (height n) n memory ≡ a → length memory ≡ triangle n → T (all finite memory) →
+      neededWork (Factor layout) n b ≤ length work →
+      factorize layout n b memory work
+      ≡ record {
+          result = columnsVerdict n a;
+          matrix = store place (columns n a (finished layout n b (columnsVerdict n a))) memory;
+          work = clear (neededWork (Factor layout) n b) work }
+  unfolding factorize factored
+  factor-free a memory work e whole f hw =
+      rw
+      (factor-checks layout n b memory (length work) (record { order = order; blockLow = low; blockHigh = high; matrix = whole; work = hw }) f, e)
+      refl
+
+all-finished : (layout : Layout) (n b : ℕ) (v : CallResult) → T (accepted v) → finished layout n b v ≡ n
+all-finished Packed n b v t = rw (is-true (accepted v) t) refl
+all-finished Blocked n b v t = rw (is-true (accepted v) t) refl
+
+rearrange-free :
+    (from to : Layout) (n b : ℕ) (memory work : List Float) → Sizes Rearranger n b (length memory) (length work) →
+    rearrange from to n b memory work
+    ≡ record { result = success; matrix = moved from to n b memory; work = clear (blockWork n b) work }
+unfolding rearrange
+rearrange-free from to n b memory work s = rw (rearranger-checks n b (length memory) (length work) s) refl
+
+-- ---- both pipelines
+
+module _ (n b m : ℕ) (matrix rhs plainWork blockedWork : List Float) (v : T (all (fits binary64) matrix)) (s : Start n b m matrix rhs plainWork blockedWork) where
+  -- the matrix, its verdict, and its factor where that is accepted
+  abbrev a : Triangle
+  a = load (placeOf Packed n b) (height n) n matrix
+
+  abbrev verdict : CallResult
+  verdict = columnsVerdict n a
+
+  abbrev factorOf : Triangle
+  factorOf = columns n a n
+
+  -- the work of a rearranger or the blocked factor is enough for a solver
+  work-enough : n ≤ blockWork n b
+  unfolding blockWork
+  work-enough = go n refl
+    where
+      go : (k : ℕ) → n ≡ k → n ≤ n * min n b
+      go zero e = omega arith
+      go (suc k) e =
+          let one : 1 ≤ min n b = omega (arith, s .blockLow) in
+          omega (arith, mul-le-mul-left n one)
+
+  abbrev inBlocks : List Float
+  inBlocks = moved Packed Blocked n b matrix
+
+  moved-length : length inBlocks ≡ triangle n
+  moved-length = length-moved Packed Blocked n b (s .blockLow) matrix (s .matrixLength)
+
+  moved-matrix : load (placeOf Blocked n b) (height n) n inBlocks ≡ a
+  moved-matrix = load-moved Packed Blocked n b (s .blockLow) matrix (s .matrixLength)
+
+  matrix-given : FiniteMatrix n a
+  matrix-given = record { values = λ i j e. at (fits binary64) v i j e; finites = λ i j e. at finite (s .matrixFinite) i j e }
+    where
+      at : (test : Float → Bool) → T (all test matrix) → (i j : ℕ) → Entry n i j → T (test (entry a i j))
+      at test t i j e =
+          let bij : Bijection (placeOf Packed n b) n = layout-bijection Packed n b (s .blockLow) in
+          subst (λ x. T (test x)) (sym (entry-load (placeOf Packed n b) n matrix i j e))
+          (all-at test matrix t (placeOf Packed n b i j) nan (omega (arith, bij .below i j e, s .matrixLength)))
+
+  moved-finite : T (all finite inBlocks)
+  unfolding moved
+  moved-finite =
+      stored-finite (placeOf Blocked n b) n (layout-bijection Blocked n b (s .blockLow)) a (shaped-load (placeOf Packed n b) n matrix)
+      (matrix-given .finites) matrix (s .matrixLength)
+
+  abbrev clearedWork : List Float
+  clearedWork = clear (blockWork n b) blockedWork
+
+  cleared-length : length clearedWork ≡ length blockedWork
+  cleared-length = length-clear (blockWork n b) blockedWork (s .blockedWorkLength)
+
+  plain-factor :
+      factorize Packed n b matrix plainWork
+      ≡ record { result = verdict; matrix = store (placeOf Packed n b) (columns n a (finished Packed n b verdict)) matrix; work = clear n plainWork }
+  plain-factor =
+      factor-free n b m (s .order) (s .blockLow) (s .blockHigh) (s .rhsCount) Packed a matrix plainWork refl (s .matrixLength) (s .matrixFinite)
+      (s .plainWorkLength)
+
+  blocked-factor :
+      factorize Blocked n b inBlocks clearedWork
+      ≡ record {
+          result = verdict;
+          matrix = store (placeOf Blocked n b) (columns n a (finished Blocked n b verdict)) inBlocks;
+          work = clear (blockWork n b) clearedWork }
+  blocked-factor =
+      factor-free n b m (s .order) (s .blockLow) (s .blockHigh) (s .rhsCount) Blocked a inBlocks clearedWork moved-matrix moved-length moved-finite
+      (omega (arith, cleared-length, s .blockedWorkLength))
+
+  there :
+      rearrange Packed Blocked n b matrix blockedWork
+      ≡ record { result = success; matrix = inBlocks; work = clearedWork }
+  there =
+      rearrange-free Packed Blocked n b matrix blockedWork
+      (record { order = s .order; blockLow = s .blockLow; blockHigh = s .blockHigh; matrix = s .matrixLength; work = s .blockedWorkLength })
+
+  plain-verdict : plainPipeline n b m matrix rhs plainWork .factorResult ≡ verdict
+  unfolding plainPipeline
+  plain-verdict = rw plain-factor (cond-both (λ (e : Ended). e .factorResult ≡ verdict) (accepted verdict) _ _ refl refl)
+
+  blocked-verdict : blockedPipeline n b m matrix rhs blockedWork .factorResult ≡ verdict
+  unfolding blockedPipeline
+  blocked-verdict = rw (there, blocked-factor) (cond-both (λ (e : Ended). e .factorResult ≡ verdict) (accepted verdict) _ _ refl refl)
+
+  -- ---- an accepted factor
+
+  module _ (t : T (accepted verdict)) where
+    factor-shaped : Shaped n n factorOf
+    factor-shaped = shaped-columns n a n (omega arith)
+
+    factor-finite : (i j : ℕ) → Entry n i j → T (finite (entry factorOf i j))
+    unfolding columnsVerdict
+    factor-finite i j e =
+        columns-finite n a matrix-given n (omega arith) (lowest-accepted (λ c. columnRules (height n) a (columns n a c) c) n t) i j e
+        (omega (arith, e .lower, e .inside))
+
+    plain-ended :
+        plainPipeline n b m matrix rhs plainWork
+        ≡ (let d = freeSolved n m factorOf rhs (clear n plainWork) in
+        record { factorResult = verdict; solverResult = d .result; matrix = store (placeOf Packed n b) factorOf matrix; rhs = d .rhs; work = d .work })
+    unfolding plainPipeline
+    plain-ended =
+        rw (plain-factor, all-finished Packed n b verdict t, is-true (accepted verdict) t,
+        solve-free n b m (s .order) (s .blockLow) (s .blockHigh) (s .rhsCount) Packed factorOf factor-shaped factor-finite matrix (s .matrixLength) rhs
+        (clear n plainWork) (s .rhsLength) (omega (arith, length-clear n plainWork (s .plainWorkLength), s .plainWorkLength)))
+        refl
+
+    abbrev solvedBlocks : Solved
+    solvedBlocks = freeSolved n m factorOf rhs (clear (blockWork n b) clearedWork)
+
+    abbrev factorBlocks : List Float
+    factorBlocks = store (placeOf Blocked n b) factorOf inBlocks
+
+    blocks-length : length factorBlocks ≡ triangle n
+    blocks-length = length-store (placeOf Blocked n b) n (layout-bijection Blocked n b (s .blockLow)) factorOf inBlocks ∙ moved-length
+
+    work-length : length (solvedBlocks .work) ≡ length blockedWork
+    work-length =
+        let twice : length (clear (blockWork n b) clearedWork) ≡ length clearedWork =
+            length-clear (blockWork n b) clearedWork (omega (arith, cleared-length, s .blockedWorkLength))
+        in
+        free-work n m factorOf rhs (clear (blockWork n b) clearedWork) (omega (arith, twice, cleared-length, s .blockedWorkLength, work-enough))
+        ∙ twice ∙ cleared-length
+
+    -- the way back writes the factor in packed order
+    back-matrix : moved Blocked Packed n b factorBlocks ≡ store (placeOf Packed n b) factorOf matrix
+    unfolding moved
+    back-matrix =
+        ap (λ l. store (placeOf Packed n b) l factorBlocks)
+        (load-store (placeOf Blocked n b) n (layout-bijection Blocked n b (s .blockLow)) factorOf inBlocks factor-shaped (omega (arith, moved-length)))
+        ∙ store-whole (placeOf Packed n b) n (layout-bijection Packed n b (s .blockLow)) factorOf factorBlocks matrix factor-shaped blocks-length (s .matrixLength)
+
+    back :
+        rearrange Blocked Packed n b factorBlocks (solvedBlocks .work)
+        ≡ record { result = success; matrix = moved Blocked Packed n b factorBlocks; work = clear (blockWork n b) (solvedBlocks .work) }
+    back =
+        rearrange-free Blocked Packed n b factorBlocks (solvedBlocks .work)
+        (record { order = s .order; blockLow = s .blockLow; blockHigh = s .blockHigh; matrix = blocks-length; work = omega (arith, work-length, s .blockedWorkLength) })
+
+    blocked-ended :
+        blockedPipeline n b m matrix rhs blockedWork
+        ≡ record {
+            factorResult = verdict;
+            solverResult = solvedBlocks .result;
+            matrix = store (placeOf Packed n b) factorOf matrix;
+            rhs = solvedBlocks .rhs;
+            work = clear (blockWork n b) (solvedBlocks .work) }
+    unfolding blockedPipeline
+    blocked-ended =
+        rw (there, blocked-factor, all-finished Blocked n b verdict t, is-true (accepted verdict) t,
+        solve-free n b m (s .order) (s .blockLow) (s .blockHigh) (s .rhsCount) Blocked factorOf factor-shaped factor-finite inBlocks moved-length rhs
+        (clear (blockWork n b) clearedWork) (s .rhsLength)
+        (omega (arith, length-clear (blockWork n b) clearedWork (omega (arith, cleared-length, s .blockedWorkLength)), cleared-length, s .blockedWorkLength, work-enough)),
+        back, back-matrix)
+        refl
+
+pub pipelines-agree : PipelinesAgree
+pipelines-agree n b m matrix rhs pw bw v s =
+    record {
+      factors = plain-verdict n b m matrix rhs pw bw v s ∙ sym (blocked-verdict n b m matrix rhs pw bw v s);
+      solvers = λ t.
+          ap (λ (e : Ended). e .solverResult) (plain t) ∙ free-same n m l rhs (clear n pw) work .0 ∙ sym (ap (λ (e : Ended). e .solverResult) (block t));
+      rhs = λ t. ap (λ (e : Ended). e .rhs) (plain t) ∙ free-same n m l rhs (clear n pw) work .1 ∙ sym (ap (λ (e : Ended). e .rhs) (block t));
+      matrix = λ t. ap (λ (e : Ended). e .matrix) (plain t) ∙ sym (ap (λ (e : Ended). e .matrix) (block t)) }
+  where
+    l : Triangle
+    l = factorOf n b m matrix rhs pw bw v s
+
+    work : List Float
+    work = clear (blockWork n b) (clear (blockWork n b) bw)
+
+    ok : T (accepted (plainPipeline n b m matrix rhs pw .factorResult)) → T (accepted (verdict n b m matrix rhs pw bw v s))
+    ok t = subst (λ r. T (accepted r)) (plain-verdict n b m matrix rhs pw bw v s) t
+
+    plain :
+        T (accepted (plainPipeline n b m matrix rhs pw .factorResult)) →
+        plainPipeline n b m matrix rhs pw
+        ≡ (let d = freeSolved n m l rhs (clear n pw) in
+        record { factorResult = verdict n b m matrix rhs pw bw v s; solverResult = d .result; matrix = store (placeOf Packed n b) l matrix; rhs = d .rhs; work = d .work })
+    plain t = plain-ended n b m matrix rhs pw bw v s (ok t)
+
+    block :
+        T (accepted (plainPipeline n b m matrix rhs pw .factorResult)) →
+        blockedPipeline n b m matrix rhs bw
+        ≡ (let d = freeSolved n m l rhs work in
+        record {
+          factorResult = verdict n b m matrix rhs pw bw v s;
+          solverResult = d .result;
+          matrix = store (placeOf Packed n b) l matrix;
+          rhs = d .rhs;
+          work = clear (blockWork n b) (d .work) })
+    block t = blocked-ended n b m matrix rhs pw bw v s (ok t)

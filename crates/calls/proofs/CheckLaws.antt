@@ -1,0 +1,268 @@
+-- Laws of the checks before any work: a list of rules judged in two parts, a search for the lowest refused one, and what an accepted check says
+-- of its arguments. Assumes nothing.
+use Prim.Native.Nat.{ℕ, zero, suc, _+_, _*_, _≤_, _<_}
+use native.Mathlib.Numerals.{add-one}
+use native.Mathlib.Omega.{arith}
+use native.Mathlib.Decide.{decLt}
+use mathlib.Core.Path.{_≡_, refl, sym, _∙_}
+use mathlib.Core.Bool.{Bool, true, false, cond, not, _&&_, _||_}
+use mathlib.Core.List.{List, [], _∷_, _++_}
+use borrow.Author.Tests.{not-true, not-false, le-leb, lt-leb, le-ltb, lt-ltb}
+use lib.Dec.{T, leb, ltb, eqb, nltb→le, eqb→eq}
+use lib.ListN.{length, getD}
+use lib.Ieee.{Float, nan}
+use Rattle.binary64.specs.Kinds.{finite, positive, zero64}
+use Rattle.shape.specs.Bounds.{maxOrder, maxBlock, maxRhs}
+use Rattle.shape.specs.Places.{triangle}
+use Rattle.calls.specs.declared.CallResult.{CallResult}
+use Rattle.calls.specs.declared.Layout.{Layout}
+use Rattle.calls.specs.declared.Call.{Call}
+use Rattle.calls.specs.declared.Call.the-variants.{Rearranger, Factor, Solver}
+use Rattle.calls.specs.Sequences.{all}
+use Rattle.calls.specs.Triangles.{placeOf}
+use Rattle.calls.specs.Refusals.{success, accepted, refusal, refuseIf, firstRefusal, lowestRefusal, byBlocks, neededWork, rule1, rule2, rule3, rule4, rule5, rule6, rule7, rule8, finiteRule, rule9}
+use Rattle.calls.specs.Calls.{rearrangerChecks, factorChecks, solverChecks}
+use Rattle.calls.proofs.Sequences.{all-of}
+use Rattle.calls.proofs.Refusals.{not-not, refuse-not, not-refused, first-accepted, lowest-accepted, lowest-success}
+
+-- ---- tests
+
+pub not-leb : (a b : ℕ) → not (leb a b) ≡ ltb b a
+not-leb a b =
+    elim (decLt b a) [
+      | yes p ↦ rw (lt-leb a b p, lt-ltb b a p)
+      | no p ↦ let h : a ≤ b = omega arith in rw (le-leb a b h, le-ltb b a h)
+    ]
+
+-- the test `!accepted(r)` of the code
+pub refused-of : (a : Bool) (r : CallResult) → a ≡ accepted r → not a ≡ true → accepted r ≡ false
+refused-of a r e h = sym e ∙ not-true a h
+
+pub accepted-of : (a : Bool) (r : CallResult) → a ≡ accepted r → not a ≡ false → accepted r ≡ true
+accepted-of a r e h = sym e ∙ not-false a h
+
+-- ---- the first of a list, judged in two parts
+
+pub first-append : (rs ss : List CallResult) → firstRefusal (rs ++ ss) ≡ cond (accepted (firstRefusal rs)) (firstRefusal ss) (firstRefusal rs)
+unfolding firstRefusal
+first-append [] ss = refl
+first-append (r ∷ rs) ss = go (accepted r) refl (first-append rs ss)
+  where
+    go :
+        (b : Bool) → accepted r ≡ b → firstRefusal (rs ++ ss) ≡ cond (accepted (firstRefusal rs)) (firstRefusal ss) (firstRefusal rs) →
+        cond b (firstRefusal (rs ++ ss)) r ≡ cond (accepted (cond b (firstRefusal rs) r)) (firstRefusal ss) (cond b (firstRefusal rs) r)
+    go true e ih = ih
+    go false e ih = rw e
+
+pub first-success : (rs : List CallResult) → T (accepted (firstRefusal rs)) → firstRefusal rs ≡ success
+unfolding firstRefusal
+first-success [] h = refl
+first-success (r ∷ rs) h = go (accepted r) refl h (first-success rs)
+  where
+    go :
+        (b : Bool) → accepted r ≡ b → T (accepted (cond b (firstRefusal rs) r)) → (T (accepted (firstRefusal rs)) → firstRefusal rs ≡ success) →
+        cond b (firstRefusal rs) r ≡ success
+    go true e t ih = ih t
+    go false e t ih = absurd (rw e at t)
+
+module _ (rs ss : List CallResult) (r : CallResult) (e : r ≡ firstRefusal rs) where
+  -- a refusal of the first part decides
+  pub first-decided : accepted r ≡ false → r ≡ firstRefusal (rs ++ ss)
+  first-decided h = let g : accepted (firstRefusal rs) ≡ false = cc in rw (first-append rs ss, g) e
+
+  -- else the second part does
+  pub first-continued : accepted r ≡ true → firstRefusal (rs ++ ss) ≡ firstRefusal ss
+  first-continued h = let g : accepted (firstRefusal rs) ≡ true = cc in rw (first-append rs ss, g)
+
+-- a rule that stands alone, success where it accepts
+pub first-alone : (r : CallResult) → (T (accepted r) → r ≡ success) → firstRefusal (r ∷ []) ≡ r
+unfolding firstRefusal
+first-alone r h = go (accepted r) refl
+  where
+    go : (b : Bool) → accepted r ≡ b → cond b success r ≡ r
+    go true e = sym (h (rw e tt))
+    go false e = refl
+
+-- ---- the lowest of many, looked for in rising order
+
+module _ (judge : ℕ → CallResult) where
+  pub lowest-next : (k : ℕ) → lowestRefusal judge k ≡ success → lowestRefusal judge (k + 1) ≡ judge k
+  unfolding lowestRefusal
+  lowest-next k e = rw (add-one k) (rw e)
+
+  pub lowest-found : (k n : ℕ) → k < n → lowestRefusal judge k ≡ success → accepted (judge k) ≡ false → lowestRefusal judge n ≡ judge k
+  unfolding lowestRefusal
+  lowest-found k zero h e r = absurd (omega arith)
+  lowest-found k (suc n) h e r =
+      elim (decLt k n) [
+        | yes p ↦ rw (lowest-found k n p e r, r)
+        | no p ↦ let g : n ≡ k = omega arith in rw (g, e)
+      ]
+
+  pub lowest-all : ((k : ℕ) → T (accepted (judge k)) → judge k ≡ success) → (n : ℕ) → T (accepted (lowestRefusal judge n)) → lowestRefusal judge n ≡ success
+  lowest-all s n h = lowest-success judge n (λ k p. s k (lowest-accepted judge n h k p))
+
+-- ---- one rule
+
+pub refuse-accepted : (c : Bool) (code place : ℕ) → T (accepted (refuseIf c (refusal (suc code) place zero64))) → refuseIf c (refusal (suc code) place zero64) ≡ success
+refuse-accepted c code place h = refuse-not c (refusal (suc code) place zero64) (not-refused c code place zero64 h)
+
+pub rule1-accepted : (n : ℕ) → T (accepted (rule1 n)) → n ≤ maxOrder
+unfolding rule1
+rule1-accepted n h = nltb→le maxOrder n (not-refused (ltb maxOrder n) 0 0 zero64 h)
+
+pub rule2-accepted : (call : Call) (b : ℕ) → T (accepted (rule2 call b)) → T (byBlocks call) → (1 ≤ b) × (b ≤ maxBlock)
+unfolding rule2
+rule2-accepted call b h t =
+    let both : T (not (eqb b 0)) × T (not (ltb maxBlock b)) = parts (byBlocks call) (eqb b 0) (ltb maxBlock b) (not-refused (byBlocks call && (eqb b 0 || ltb maxBlock b)) 1 0 zero64 h) t in
+    (positive-of b (both .0), nltb→le maxBlock b (both .1))
+  where
+    parts : (c x y : Bool) → T (not (c && (x || y))) → T c → T (not x) × T (not y)
+    parts true false false h t = (tt, tt)
+    parts true false true h t = absurd h
+    parts true true y h t = absurd h
+    parts false x y h t = absurd t
+
+    positive-of : (b : ℕ) → T (not (eqb b 0)) → 1 ≤ b
+    positive-of zero h = absurd h
+    positive-of (suc b) h = omega arith
+
+pub rule3-accepted : (n l : ℕ) → T (accepted (rule3 n l)) → l ≡ triangle n
+unfolding rule3
+rule3-accepted n l h = eqb→eq l (triangle n) (not-not (eqb l (triangle n)) (not-refused (not (eqb l (triangle n))) 2 0 zero64 h))
+
+pub rule4-accepted : (call : Call) (n b l : ℕ) → T (accepted (rule4 call n b l)) → neededWork call n b ≤ l
+unfolding rule4
+rule4-accepted call n b l h = nltb→le l (neededWork call n b) (not-refused (ltb l (neededWork call n b)) 3 0 zero64 h)
+
+pub rule5-accepted : (m : ℕ) → T (accepted (rule5 m)) → m ≤ maxRhs
+unfolding rule5
+rule5-accepted m h = nltb→le maxRhs m (not-refused (ltb maxRhs m) 4 0 zero64 h)
+
+pub rule6-accepted : (n m l : ℕ) → T (accepted (rule6 n m l)) → l ≡ n * m
+unfolding rule6
+rule6-accepted n m l h = eqb→eq l (n * m) (not-not (eqb l (n * m)) (not-refused (not (eqb l (n * m))) 5 0 zero64 h))
+
+-- rules 7 and 8 at one position
+abbrev pub finiteAt : ℕ → List Float → ℕ → CallResult
+finiteAt code memory p = refuseIf (not (finite (getD memory p nan))) (refusal code p zero64)
+
+pub finite-success : (code : ℕ) (memory : List Float) → T (accepted (finiteRule (suc code) memory)) → finiteRule (suc code) memory ≡ success
+unfolding finiteRule
+finite-success code memory = lowest-all (finiteAt (suc code) memory) (λ p. refuse-accepted (not (finite (getD memory p nan))) code p) (length memory)
+
+pub finite-accepted : (code : ℕ) (memory : List Float) → T (accepted (finiteRule (suc code) memory)) → T (all finite memory)
+unfolding finiteRule
+finite-accepted code memory h =
+    all-of finite memory nan
+    (λ p q. not-not (finite (getD memory p nan)) (not-refused (not (finite (getD memory p nan))) code p zero64 (lowest-accepted (finiteAt (suc code) memory) (length memory) h p q)))
+
+pub finite-alone : (code : ℕ) (memory : List Float) → firstRefusal (finiteRule (suc code) memory ∷ []) ≡ finiteRule (suc code) memory
+finite-alone code memory = first-alone (finiteRule (suc code) memory) (finite-success code memory)
+
+-- rule 9 at one column
+abbrev pub positiveAt : (ℕ → ℕ → ℕ) → List Float → ℕ → CallResult
+positiveAt place matrix j = refuseIf (not (positive (getD matrix (place j j) nan))) (refusal 9 j zero64)
+
+module _ (place : ℕ → ℕ → ℕ) (n : ℕ) (matrix : List Float) where
+  pub rule9-success : T (accepted (rule9 place n matrix)) → rule9 place n matrix ≡ success
+  unfolding rule9
+  rule9-success = lowest-all (positiveAt place matrix) (λ j. refuse-accepted (not (positive (getD matrix (place j j) nan))) 8 j) n
+
+  pub rule9-alone : firstRefusal (rule9 place n matrix ∷ []) ≡ rule9 place n matrix
+  rule9-alone = first-alone (rule9 place n matrix) rule9-success
+
+  pub rule9-accepted : T (accepted (rule9 place n matrix)) → (j : ℕ) → j < n → T (positive (getD matrix (place j j) nan))
+  unfolding rule9
+  rule9-accepted h j p =
+      not-not (positive (getD matrix (place j j) nan))
+      (not-refused (not (positive (getD matrix (place j j) nan))) 8 j zero64 (lowest-accepted (positiveAt place matrix) n h j p))
+
+-- ---- what an accepted check says
+
+-- of the sizes; the block length is bounded only where the call works by blocks
+pub record SizesAccepted (call : Call) (n b matrixLength workLength : ℕ) : Type 0 where
+  pub order : n ≤ maxOrder
+  pub blockLow : T (byBlocks call) → 1 ≤ b
+  pub blockHigh : T (byBlocks call) → b ≤ maxBlock
+  pub matrix : matrixLength ≡ triangle n
+  pub work : neededWork call n b ≤ workLength
+
+abbrev pub RearrangerAccepted : ℕ → ℕ → ℕ → ℕ → Type 0
+RearrangerAccepted n b matrixLength workLength = SizesAccepted Rearranger n b matrixLength workLength
+
+pub record FactorAccepted (layout : Layout) (n b : ℕ) (matrix : List Float) (workLength : ℕ) : Type 0 where
+  pub sizes : SizesAccepted (Factor layout) n b (length matrix) workLength
+  pub matrixFinite : T (all finite matrix)
+
+pub record SolverAccepted (layout : Layout) (n b m : ℕ) (matrix rhs : List Float) (workLength : ℕ) : Type 0 where
+  pub sizes : SizesAccepted (Solver layout) n b (length matrix) workLength
+  pub rhsCount : m ≤ maxRhs
+  pub rhsLength : length rhs ≡ n * m
+  pub matrixFinite : T (all finite matrix)
+  pub rhsFinite : T (all finite rhs)
+  pub diagonal : (j : ℕ) → j < n → T (positive (getD matrix (placeOf layout n b j j) nan))
+
+module _ (call : Call) (n b ml wl : ℕ) where
+  abbrev pub sizeRules : List CallResult
+  sizeRules = rule1 n ∷ rule2 call b ∷ rule3 n ml ∷ rule4 call n b wl ∷ []
+
+  pub sizes-accepted : (rest : List CallResult) → T (accepted (firstRefusal (sizeRules ++ rest))) → SizesAccepted call n b ml wl × T (accepted (firstRefusal rest))
+  sizes-accepted rest h =
+      let p1 = first-accepted (rule1 n) (rule2 call b ∷ rule3 n ml ∷ rule4 call n b wl ∷ rest) h in
+      let p2 = first-accepted (rule2 call b) (rule3 n ml ∷ rule4 call n b wl ∷ rest) (p1 .1) in
+      let p3 = first-accepted (rule3 n ml) (rule4 call n b wl ∷ rest) (p2 .1) in
+      let p4 = first-accepted (rule4 call n b wl) rest (p3 .1) in (
+        record {
+          order = rule1-accepted n (p1 .0);
+          blockLow = λ t. rule2-accepted call b (p2 .0) t .0;
+          blockHigh = λ t. rule2-accepted call b (p2 .0) t .1;
+          matrix = rule3-accepted n ml (p3 .0);
+          work = rule4-accepted call n b wl (p4 .0);
+        },
+        p4 .1,
+      )
+
+module _ (n b ml wl : ℕ) (h : T (accepted (rearrangerChecks n b ml wl))) where
+  pub rearranger-accepted : RearrangerAccepted n b ml wl
+  unfolding rearrangerChecks
+  rearranger-accepted = sizes-accepted Rearranger n b ml wl [] h .0
+
+  pub rearranger-success : rearrangerChecks n b ml wl ≡ success
+  unfolding rearrangerChecks
+  rearranger-success = first-success _ h
+
+module _ (layout : Layout) (n b : ℕ) (matrix : List Float) (wl : ℕ) (h : T (accepted (factorChecks layout n b matrix wl))) where
+  pub factor-accepted : FactorAccepted layout n b matrix wl
+  unfolding factorChecks
+  factor-accepted =
+      let s = sizes-accepted (Factor layout) n b (length matrix) wl (rule7 matrix ∷ []) h in
+      record { sizes = s .0; matrixFinite = finite-accepted 6 matrix (first-accepted (rule7 matrix) [] (s .1) .0) }
+
+  pub factor-success : factorChecks layout n b matrix wl ≡ success
+  unfolding factorChecks
+  factor-success = first-success _ h
+
+module _ (layout : Layout) (n b m : ℕ) (matrix rhs : List Float) (wl : ℕ) (h : T (accepted (solverChecks layout n b m matrix rhs wl))) where
+  pub solver-accepted : SolverAccepted layout n b m matrix rhs wl
+  unfolding solverChecks
+  solver-accepted =
+      let place = placeOf layout n b in
+      let s = sizes-accepted (Solver layout) n b (length matrix) wl (rule5 m ∷ rule6 n m (length rhs) ∷ rule7 matrix ∷ rule8 rhs ∷ rule9 place n matrix ∷ []) h in
+      let p5 = first-accepted (rule5 m) (rule6 n m (length rhs) ∷ rule7 matrix ∷ rule8 rhs ∷ rule9 place n matrix ∷ []) (s .1) in
+      let p6 = first-accepted (rule6 n m (length rhs)) (rule7 matrix ∷ rule8 rhs ∷ rule9 place n matrix ∷ []) (p5 .1) in
+      let p7 = first-accepted (rule7 matrix) (rule8 rhs ∷ rule9 place n matrix ∷ []) (p6 .1) in
+      let p8 = first-accepted (rule8 rhs) (rule9 place n matrix ∷ []) (p7 .1) in
+      let p9 = first-accepted (rule9 place n matrix) [] (p8 .1) in
+      record {
+        sizes = s .0;
+        rhsCount = rule5-accepted m (p5 .0);
+        rhsLength = rule6-accepted n m (length rhs) (p6 .0);
+        matrixFinite = finite-accepted 6 matrix (p7 .0);
+        rhsFinite = finite-accepted 7 rhs (p8 .0);
+        diagonal = rule9-accepted place n matrix (p9 .0);
+      }
+
+  pub solver-success : solverChecks layout n b m matrix rhs wl ≡ success
+  unfolding solverChecks
+  solver-success = first-success _ h

@@ -1,0 +1,261 @@
+-- Document 01's P examples as one table, each row under its own line of text, and rows that tell orders of rounding apart. One proposition covers
+-- them all. Values stand as bit patterns. Assumes nothing.
+use Prim.Native.Nat.{ℕ, _+_}
+use mathlib.Core.Bool.{Bool, true, false, _&&_}
+use mathlib.Core.List.{List, [], _∷_, _++_, map}
+use lib.Dec.{T, eqb}
+use lib.ListN.{replicate}
+use lib.Ieee.{Float, binary64, ofBits, toBits, mul, sub, div, lt}
+use Rattle.binary64.specs.Kinds.{positive}
+use Rattle.binary64.specs.Root.{root}
+use Rattle.binary64.specs.Judged.{judged}
+use Rattle.shape.specs.Places.{triangle, packedPlace, blockedPlace, blockWork}
+use Rattle.calls.specs.declared.CallResult.{CallResult}
+use Rattle.calls.specs.declared.Layout.{Layout}
+use Rattle.calls.specs.declared.Layout.the-variants.{Packed, Blocked}
+use Rattle.calls.specs.Sequences.{iterate, grow, tabulate, all}
+use Rattle.calls.specs.Triangles.{entry, height, placeOf, load, storeColumn, store}
+use Rattle.calls.specs.Arithmetic.{minusProducts, pivot, quotient, below, factorColumn, cholesky, forward, backwardRows, backward}
+use Rattle.calls.specs.Refusals.{firstRefusal, lowestRefusal, rule1, rule2, rule3, rule4, rule5, rule6, finiteRule, rule9, rule11, columnRules, rule12}
+use Rattle.calls.specs.Calls.{clear, rearrangerChecks, moved, rearrange, factorChecks, columnsVerdict, factored, factorize, solverChecks, rhsPart, solution, rhsVerdict, solutions, solved, solve}
+use Rattle.calls.specs.Pipelines.{Ended, plainPipeline, blockedPipeline}
+
+-- ---- bit patterns
+
+abbrev minusZero : ℕ
+minusZero = 0x8000_0000_0000_0000
+
+abbrev one : ℕ
+one = 0x3FF0_0000_0000_0000
+
+abbrev two : ℕ
+two = 0x4000_0000_0000_0000
+
+abbrev three : ℕ
+three = 0x4008_0000_0000_0000
+
+abbrev four : ℕ
+four = 0x4010_0000_0000_0000
+
+abbrev five : ℕ
+five = 0x4014_0000_0000_0000
+
+abbrev six : ℕ
+six = 0x4018_0000_0000_0000
+
+abbrev nine : ℕ
+nine = 0x4022_0000_0000_0000
+
+abbrev ten : ℕ
+ten = 0x4024_0000_0000_0000
+
+abbrev fifteen : ℕ
+fifteen = 0x402E_0000_0000_0000
+
+abbrev seventeen : ℕ
+seventeen = 0x4031_0000_0000_0000
+
+abbrev minusOne : ℕ
+minusOne = 0xBFF0_0000_0000_0000
+
+abbrev minusTwo : ℕ
+minusTwo = 0xC000_0000_0000_0000
+
+abbrev infinity : ℕ
+infinity = 0x7FF0_0000_0000_0000
+
+abbrev minusInfinity : ℕ
+minusInfinity = 0xFFF0_0000_0000_0000
+
+-- powers of two
+abbrev twoToMinus1000 : ℕ
+twoToMinus1000 = 0x0170_0000_0000_0000
+
+abbrev twoToMinus500 : ℕ
+twoToMinus500 = 0x20B0_0000_0000_0000
+
+abbrev twoToMinus100 : ℕ
+twoToMinus100 = 0x39B0_0000_0000_0000
+
+abbrev twoToMinus54 : ℕ
+twoToMinus54 = 0x3C90_0000_0000_0000
+
+abbrev twoToMinus27 : ℕ
+twoToMinus27 = 0x3E40_0000_0000_0000
+
+abbrev twoTo100 : ℕ
+twoTo100 = 0x4630_0000_0000_0000
+
+abbrev twoTo600 : ℕ
+twoTo600 = 0x6570_0000_0000_0000
+
+abbrev twoTo900 : ℕ
+twoTo900 = 0x7830_0000_0000_0000
+
+-- ---- comparing by bits
+
+memory : List ℕ → List Float
+memory patterns = map (ofBits binary64) patterns
+
+holds : List Float → List ℕ → Bool
+holds [] [] = true
+holds [] (p ∷ ps) = false
+holds (x ∷ xs) [] = false
+holds (x ∷ xs) (p ∷ ps) = eqb (toBits binary64 x) p && holds xs ps
+
+-- code, place and value
+abbrev Answer : Type 0
+Answer = ℕ × ℕ × ℕ
+
+abbrev success : Answer
+success = (0, 0, 0)
+
+gives : CallResult → Answer → Bool
+gives r answer = eqb (r .code) (answer .0) && eqb (r .place) (answer .1) && eqb (toBits binary64 (r .value)) (answer .2)
+
+-- work memory of one value more than is needed, none of them zero, and what a call leaves there
+used : ℕ → List Float
+unfolding memory
+used needed = memory (replicate (needed + 1) infinity)
+
+cleared : ℕ → List ℕ
+cleared needed = replicate needed 0 ++ (infinity ∷ [])
+
+-- ---- the tests of a row
+
+-- from to n b needed matrix; the matrix afterwards
+moves : Layout → Layout → ℕ → ℕ → ℕ → List ℕ → List ℕ → Bool
+unfolding memory holds gives used cleared
+moves from to n b needed matrix after =
+    let d = rearrange from to n b (memory matrix) (used needed) in
+    gives (d .result) success && holds (d .matrix) after && holds (d .work) (cleared needed)
+
+-- layout n b needed matrix; the result and the matrix afterwards
+factors : Layout → ℕ → ℕ → ℕ → List ℕ → Answer → List ℕ → Bool
+unfolding memory holds gives used cleared
+factors layout n b needed matrix answer after =
+    let d = factorize layout n b (memory matrix) (used needed) in
+    gives (d .result) answer && holds (d .matrix) after && holds (d .work) (cleared needed)
+
+-- layout n b m factor rhs; the result and the right-hand sides afterwards
+solves : Layout → ℕ → ℕ → ℕ → List ℕ → List ℕ → Answer → List ℕ → Bool
+unfolding memory holds gives used cleared
+solves layout n b m factor rhs answer after =
+    let d = solve layout n b m (memory factor) (memory rhs) (used n) in
+    gives (d .result) answer && holds (d .rhs) after && holds (d .work) (cleared n)
+
+-- a pipeline that accepts: needed; the matrix, the right-hand sides and the work memory at its end
+ends : Ended → ℕ → List ℕ → List ℕ → Bool
+unfolding holds gives cleared
+ends e needed matrix rhs =
+    gives (e .factorResult) success && gives (e .solverResult) success && holds (e .matrix) matrix && holds (e .rhs) rhs
+    && holds (e .work) (cleared needed)
+
+-- b needed: the job of document 01 on both pipelines, its factor in packed order and its solution
+job : ℕ → ℕ → Bool
+unfolding memory used ends
+job b needed =
+    let matrix = memory (four ∷ two ∷ minusTwo ∷ ten ∷ five ∷ six ∷ []) in
+    let rhs = memory (four ∷ seventeen ∷ nine ∷ []) in
+    let factor = two ∷ one ∷ minusOne ∷ three ∷ two ∷ one ∷ [] in
+    let x = one ∷ one ∷ one ∷ [] in
+    ends (plainPipeline 3 b 1 matrix rhs (used 3)) 3 factor x && ends (blockedPipeline 3 b 1 matrix rhs (used needed)) needed factor x
+
+-- n b i j; the place
+at : ℕ → ℕ → ℕ → ℕ → ℕ → Bool
+at n b i j place = eqb (blockedPlace n b i j) place
+
+hasRoot : ℕ → ℕ → Bool
+hasRoot v r = eqb (toBits binary64 (root (ofBits binary64 v))) r
+
+-- ---- the table
+
+pub rows : List Bool
+unfolding moves factors solves job at hasRoot
+rows =
+    -- n 0, empty memory: success.
+    moves Packed Blocked 0 1 0 [] []
+    ∷ moves Blocked Packed 0 1 0 [] []
+    ∷ factors Packed 0 1 0 [] success []
+    ∷ factors Blocked 0 1 0 [] success []
+    ∷ solves Packed 0 1 0 [] [] success []
+    ∷ solves Packed 0 1 1000 [] [] success []
+    ∷ solves Blocked 0 1 0 [] [] success []
+    ∷ solves Blocked 0 1 1000 [] [] success []
+    -- matrix 4 gives 2; +0 gives 10, place 0, value +0; −0 gives 10 with value −0.
+    ∷ factors Packed 1 1 1 (four ∷ []) success (two ∷ [])
+    ∷ factors Blocked 1 1 1 (four ∷ []) success (two ∷ [])
+    ∷ factors Packed 1 1 1 (0 ∷ []) (10, 0, 0) (0 ∷ [])
+    ∷ factors Blocked 1 1 1 (0 ∷ []) (10, 0, 0) (0 ∷ [])
+    ∷ factors Packed 1 1 1 (minusZero ∷ []) (10, 0, minusZero) (minusZero ∷ [])
+    ∷ factors Blocked 1 1 1 (minusZero ∷ []) (10, 0, minusZero) (minusZero ∷ [])
+    -- the job above, with b 1, 2, 3 and 200; its blocked factor for b 2 is 2, 1, 3, −1, 2, 1.
+    ∷ job 1 3
+    ∷ job 2 6
+    ∷ job 3 9
+    ∷ job 200 9
+    ∷ factors Packed 3 2 3 (four ∷ two ∷ minusTwo ∷ ten ∷ five ∷ six ∷ []) success (two ∷ one ∷ minusOne ∷ three ∷ two ∷ one ∷ [])
+    ∷ moves Packed Blocked 3 2 6 (four ∷ two ∷ minusTwo ∷ ten ∷ five ∷ six ∷ []) (four ∷ two ∷ ten ∷ minusTwo ∷ five ∷ six ∷ [])
+    ∷ factors Blocked 3 2 6 (four ∷ two ∷ ten ∷ minusTwo ∷ five ∷ six ∷ []) success (two ∷ one ∷ three ∷ minusOne ∷ two ∷ one ∷ [])
+    ∷ solves Blocked 3 2 1 (two ∷ one ∷ three ∷ minusOne ∷ two ∷ one ∷ []) (four ∷ seventeen ∷ nine ∷ []) success (one ∷ one ∷ one ∷ [])
+    ∷ moves Blocked Packed 3 2 6 (two ∷ one ∷ three ∷ minusOne ∷ two ∷ one ∷ []) (two ∷ one ∷ minusOne ∷ three ∷ two ∷ one ∷ [])
+    -- packed 1, 1, 1 (n 2): 10, place 1, value +0.
+    ∷ factors Packed 2 1 2 (one ∷ one ∷ one ∷ []) (10, 1, 0) (one ∷ one ∷ one ∷ [])
+    ∷ factors Blocked 2 1 2 (one ∷ one ∷ one ∷ []) (10, 1, 0) (one ∷ one ∷ one ∷ [])
+    ∷ factors Blocked 2 2 4 (one ∷ one ∷ one ∷ []) (10, 1, 0) (one ∷ one ∷ one ∷ [])
+    -- packed 2^−1000, 2^600, 1: 11, place 0.
+    ∷ factors Packed 2 1 2 (twoToMinus1000 ∷ twoTo600 ∷ one ∷ []) (11, 0, 0) (twoToMinus1000 ∷ twoTo600 ∷ one ∷ [])
+    ∷ factors Blocked 2 1 2 (twoToMinus1000 ∷ twoTo600 ∷ one ∷ []) (11, 0, 0) (twoToMinus1000 ∷ twoTo600 ∷ one ∷ [])
+    ∷ factors Blocked 2 2 4 (twoToMinus1000 ∷ twoTo600 ∷ one ∷ []) (11, 0, 0) (twoToMinus1000 ∷ twoTo600 ∷ one ∷ [])
+    -- packed 2^−1000, 0, 2^600, −1, 0, 1, b 2: 11, place 0, though the diagonal block meets −1 first.
+    ∷ factors Packed 3 2 3 (twoToMinus1000 ∷ 0 ∷ twoTo600 ∷ minusOne ∷ 0 ∷ one ∷ []) (11, 0, 0)
+    (twoToMinus1000 ∷ 0 ∷ twoTo600 ∷ minusOne ∷ 0 ∷ one ∷ [])
+    ∷ factors Blocked 3 2 6 (twoToMinus1000 ∷ 0 ∷ minusOne ∷ twoTo600 ∷ 0 ∷ one ∷ []) (11, 0, 0)
+    (twoToMinus1000 ∷ 0 ∷ minusOne ∷ twoTo600 ∷ 0 ∷ one ∷ [])
+    -- factor 2^−500, right side 2^600: 12, place 0.
+    ∷ solves Packed 1 1 1 (twoToMinus500 ∷ []) (twoTo600 ∷ []) (12, 0, 0) (twoTo600 ∷ [])
+    ∷ solves Blocked 1 1 1 (twoToMinus500 ∷ []) (twoTo600 ∷ []) (12, 0, 0) (twoTo600 ∷ [])
+    -- n 10, b 3: (9,2) at 26, (3,3) at 27, (9,5) at 44, (9,9) at 54.
+    ∷ at 10 3 9 2 26
+    ∷ at 10 3 3 3 27
+    ∷ at 10 3 9 5 44
+    ∷ at 10 3 9 9 54
+    -- roots by bits: 0000000000000001 gives 1E60000000000000; 3FEFFFFFFFFFFFFF gives itself; 4000000000000000 gives 3FF6A09E667F3BCD.
+    ∷ hasRoot 0x0000_0000_0000_0001 0x1E60_0000_0000_0000
+    ∷ hasRoot 0x3FEF_FFFF_FFFF_FFFF 0x3FEF_FFFF_FFFF_FFFF
+    ∷ hasRoot 0x4000_0000_0000_0000 0x3FF6_A09E_667F_3BCD
+    -- ---- beyond document 01's list
+    -- What stays after 10: the plain factor keeps its finished columns, the blocked one its finished block columns.
+    ∷ factors Packed 2 1 2 (four ∷ two ∷ one ∷ []) (10, 1, 0) (two ∷ one ∷ one ∷ [])
+    ∷ factors Blocked 2 1 2 (four ∷ two ∷ one ∷ []) (10, 1, 0) (two ∷ one ∷ one ∷ [])
+    ∷ factors Blocked 2 2 4 (four ∷ two ∷ one ∷ []) (10, 1, 0) (four ∷ two ∷ one ∷ [])
+    -- The pivot 0 − 2^1200 is −infinity.
+    ∷ factors Packed 2 1 2 (one ∷ twoTo600 ∷ 0 ∷ []) (10, 1, minusInfinity) (one ∷ twoTo600 ∷ 0 ∷ [])
+    -- After 12 an earlier right-hand side holds its solution, a later one its entry values.
+    ∷ solves Packed 1 1 3 (twoToMinus500 ∷ []) (twoToMinus100 ∷ twoTo600 ∷ twoToMinus100 ∷ []) (12, 1, 0)
+    (twoTo900 ∷ twoTo600 ∷ twoToMinus100 ∷ [])
+    ∷ solves Blocked 1 1 3 (twoToMinus500 ∷ []) (twoToMinus100 ∷ twoTo600 ∷ twoToMinus100 ∷ []) (12, 1, 0)
+    (twoTo900 ∷ twoTo600 ∷ twoToMinus100 ∷ [])
+    -- y is finite, x is not.
+    ∷ solves Packed 1 1 1 (twoToMinus500 ∷ []) (twoTo100 ∷ []) (12, 0, 0) (twoTo100 ∷ [])
+    -- The last pivot is 1 − 2^−54 − 2^−54: 1 one by one, ties to even; 1 − 2^−53 where the products are summed first.
+    ∷ factors Packed 3 1 3 (one ∷ 0 ∷ twoToMinus27 ∷ one ∷ twoToMinus27 ∷ one ∷ []) success (one ∷ 0 ∷ twoToMinus27 ∷ one ∷ twoToMinus27 ∷ one ∷ [])
+    -- The last pivot is 1 − 2^−54 − 1: +0 with rising k, −2^−54 with falling k.
+    ∷ factors Packed 3 1 3 (one ∷ 0 ∷ twoToMinus27 ∷ one ∷ one ∷ one ∷ []) (10, 2, 0) (one ∷ 0 ∷ twoToMinus27 ∷ one ∷ one ∷ one ∷ [])
+    -- The last pivot is 1 + 2^−51 − (1 + 2^−52)²: +0 where the product is rounded first, −2^−104 where it is fused with the difference.
+    ∷ factors Packed 2 1 2 (one ∷ 0x3FF0_0000_0000_0001 ∷ 0x3FF0_0000_0000_0002 ∷ []) (10, 1, 0)
+    (one ∷ 0x3FF0_0000_0000_0001 ∷ 0x3FF0_0000_0000_0002 ∷ [])
+    -- 5 / 3 ends in B, 5 × (1 / 3) in A.
+    ∷ factors Packed 2 1 2 (nine ∷ five ∷ four ∷ []) success (three ∷ 0x3FFA_AAAA_AAAA_AAAB ∷ 0x3FF1_B04C_62A8_F4CD ∷ [])
+    -- Forward 5 / 3 and backward 5 / 3 likewise: with a product by 1 / 3 the first row ends in 1, the second in A.
+    ∷ solves Packed 1 1 1 (three ∷ []) (five ∷ []) success (0x3FE1_C71C_71C7_1C72 ∷ [])
+    ∷ solves Packed 1 1 1 (three ∷ []) (fifteen ∷ []) success (0x3FFA_AAAA_AAAA_AAAB ∷ [])
+    -- The last y is 1 − 2^−54 − 1: +0 with rising k, −2^−54 with falling k.
+    ∷ solves Packed 3 1 1 (one ∷ 0 ∷ twoToMinus54 ∷ one ∷ one ∷ one ∷ []) (one ∷ one ∷ one ∷ []) success (one ∷ one ∷ 0 ∷ [])
+    -- The first x is 1 − 2^−54 − 1: +0 with falling k, −2^−54 with rising k.
+    ∷ solves Packed 3 1 1 (one ∷ one ∷ twoToMinus54 ∷ one ∷ 0 ∷ one ∷ []) (one ∷ two ∷ one ∷ []) success (0 ∷ one ∷ one ∷ [])
+    ∷ []
+
+pub examples-hold : T (all (λ r. r) rows)
+unfolding rows rearrange rearrangerChecks moved factorize factorChecks factored columnsVerdict solve solverChecks solved rhsVerdict rhsPart solution solutions clear plainPipeline blockedPipeline firstRefusal lowestRefusal rule1 rule2 rule3 rule4 rule5 rule6 finiteRule rule9 rule11 columnRules rule12 minusProducts pivot quotient below factorColumn cholesky forward backwardRows backward iterate grow tabulate all entry height placeOf load storeColumn store positive root judged triangle packedPlace blockedPlace blockWork toBits ofBits mul sub div lt
+examples-hold = tt

@@ -1,0 +1,12 @@
+pub mod Sequences
+pub mod Writes
+pub mod Triangles
+pub mod Refusals
+pub mod Columns
+pub mod Checks
+pub mod CheckLaws
+pub mod Rearranging
+pub mod Agreement
+pub mod Entries
+pub mod Pivots
+pub mod Examples

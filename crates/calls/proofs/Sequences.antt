@@ -1,0 +1,69 @@
+-- Laws of specs/Sequences.antt: lengths and elements of grown lists, and what `all` says of each element. Assumes nothing.
+use Prim.Native.Nat.{ℕ, zero, suc, _+_, _≤_, _<_}
+use native.Mathlib.Nat.{zero-add}
+use native.Mathlib.Numerals.{add-one}
+use native.Mathlib.Omega.{arith}
+use native.Mathlib.Decide.{decLt}
+use mathlib.Core.Path.{_≡_, refl, sym, ap, _∙_, subst}
+use mathlib.Core.Bool.{Bool, true, false, _&&_}
+use mathlib.Core.List.{List, [], _∷_, _++_}
+use lib.Dec.{T}
+use lib.ListN.{length, getD, take, length-append, List·getD-append}
+use lib.Seq.{getD-at, ext-getD, take-append-le, take-all}
+use lib.Ieee.Fits.{and-i, and-l, and-r}
+use Rattle.calls.specs.Sequences.{iterate, grow, tabulate, all}
+
+-- ---- grown lists
+
+module _ {A : Type 0} (next : ℕ → List A → A) where
+  pub length-grow : (n : ℕ) → length (grow next n) ≡ n
+  unfolding grow
+  length-grow zero = refl
+  length-grow (suc k) = length-append (grow next k) _ ∙ ap (λ (x : ℕ). x + 1) (length-grow k) ∙ add-one k
+
+  pub getD-grow : (n i : ℕ) (d : A) → i < n → getD (grow next n) i d ≡ next i (grow next i)
+  unfolding grow
+  getD-grow zero i d h = absurd (omega arith)
+  getD-grow (suc k) i d h =
+      elim (decLt i k)
+      [ yes p ↦ List·getD-append (grow next k) _ d i (omega (arith, length-grow k)) ∙ getD-grow k i d p
+      | no p ↦ let e : i ≡ k = omega arith in rw e (getD-at (grow next k) (next k (grow next k)) [] d k (length-grow k)) ]
+
+  pub take-grow : (n i : ℕ) → i ≤ n → take i (grow next n) ≡ grow next i
+  unfolding grow
+  take-grow zero i h = let e : i ≡ 0 = omega arith in rw e
+  take-grow (suc k) i h =
+      elim (decLt k i)
+      [ yes p ↦
+          let e : i ≡ suc k = omega arith in
+          rw e (take-all (suc k) (grow next (suc k)) (omega (arith, length-grow (suc k))))
+      | no p ↦ take-append-le i (grow next k) _ (omega (arith, length-grow k)) ∙ take-grow k i (omega arith) ]
+
+module _ {A : Type 0} (f : ℕ → A) where
+  pub length-tabulate : (n : ℕ) → length (tabulate n f) ≡ n
+  unfolding tabulate
+  length-tabulate n = length-grow (λ k before. f k) n
+
+  pub getD-tabulate : (n i : ℕ) (d : A) → i < n → getD (tabulate n f) i d ≡ f i
+  unfolding tabulate
+  getD-tabulate n i d h = getD-grow (λ k before. f k) n i d h
+
+-- a list of n elements whose element i is f i is the table of f
+pub tabulate-of : {A : Type 0} (f : ℕ → A) (n : ℕ) (xs : List A) (d : A) → length xs ≡ n → ((i : ℕ) → i < n → getD xs i d ≡ f i) → tabulate n f ≡ xs
+tabulate-of f n xs d e h =
+    ext-getD d (tabulate n f) xs (length-tabulate f n ∙ sym e)
+    (λ i p. let q : i < n = omega (arith, length-tabulate f n) in getD-tabulate f n i d q ∙ sym (h i q))
+
+-- ---- all
+
+module _ {A : Type 0} (test : A → Bool) where
+  pub all-at : (xs : List A) → T (all test xs) → (i : ℕ) (d : A) → i < length xs → T (test (getD xs i d))
+  unfolding all
+  all-at [] h i d p = absurd (omega arith)
+  all-at (x ∷ xs) h zero d p = and-l (test x) (all test xs) h
+  all-at (x ∷ xs) h (suc i) d p = all-at xs (and-r (test x) (all test xs) h) i d (omega arith)
+
+  pub all-of : (xs : List A) (d : A) → ((i : ℕ) → i < length xs → T (test (getD xs i d))) → T (all test xs)
+  unfolding all
+  all-of [] d h = tt
+  all-of (x ∷ xs) d h = and-i (test x) (all test xs) (h zero (omega arith)) (all-of xs d (λ i p. h (suc i) (omega arith)))

@@ -1,0 +1,22 @@
+-- Lists and steps in rising order.
+use Prim.Native.Nat.{ℕ, zero, suc}
+use mathlib.Core.Bool.{Bool, true, _&&_}
+use mathlib.Core.List.{List, [], _∷_, _++_}
+
+-- step 0, then step 1, .., then step (count − 1)
+unfoldable pub iterate : {A : Type 0} → (ℕ → A → A) → ℕ → A → A
+iterate step zero a = a
+iterate step (suc k) a = step k (iterate step k a)
+
+-- the list whose element k is worked out from the elements before it
+unfoldable pub grow : {A : Type 0} → (ℕ → List A → A) → ℕ → List A
+grow next zero = []
+grow next (suc k) = let before = grow next k in before ++ (next k before ∷ [])
+
+-- f 0, f 1, .., f (count − 1)
+unfoldable pub tabulate : {A : Type 0} → ℕ → (ℕ → A) → List A
+tabulate count f = grow (λ k before. f k) count
+
+unfoldable pub all : {A : Type 0} → (A → Bool) → List A → Bool
+all test [] = true
+all test (x ∷ xs) = test x && all test xs
