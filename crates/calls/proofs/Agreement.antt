@@ -129,9 +129,10 @@ module _ (n b m : ℕ) (order : n ≤ maxOrder) (low : 1 ≤ b) (high : b ≤ ma
       neededWork (Factor layout) n b ≤ length work →
       factorize layout n b memory work
       ≡ record {
-          result = columnsVerdict n a;
-          matrix = store place (columns n a (finished layout n b (columnsVerdict n a))) memory;
-          work = clear (neededWork (Factor layout) n b) work }
+        result = columnsVerdict n a;
+        matrix = store place (columns n a (finished layout n b (columnsVerdict n a))) memory;
+        work = clear (neededWork (Factor layout) n b) work;
+      }
   unfolding factorize factored
   factor-free a memory work e whole f hw =
       rw
@@ -213,9 +214,10 @@ module _ (n b m : ℕ) (matrix rhs plainWork blockedWork : List Float) (v : T (a
   blocked-factor :
       factorize Blocked n b inBlocks clearedWork
       ≡ record {
-          result = verdict;
-          matrix = store (placeOf Blocked n b) (columns n a (finished Blocked n b verdict)) inBlocks;
-          work = clear (blockWork n b) clearedWork }
+        result = verdict;
+        matrix = store (placeOf Blocked n b) (columns n a (finished Blocked n b verdict)) inBlocks;
+        work = clear (blockWork n b) clearedWork;
+      }
   blocked-factor =
       factor-free n b m (s .order) (s .blockLow) (s .blockHigh) (s .rhsCount) Blocked a inBlocks clearedWork moved-matrix moved-length moved-finite
       (omega (arith, cleared-length, s .blockedWorkLength))
@@ -253,9 +255,13 @@ module _ (n b m : ℕ) (matrix rhs plainWork blockedWork : List Float) (v : T (a
         record { factorResult = verdict; solverResult = d .result; matrix = store (placeOf Packed n b) factorOf matrix; rhs = d .rhs; work = d .work })
     unfolding plainPipeline
     plain-ended =
-        rw (plain-factor, all-finished Packed n b verdict t, is-true (accepted verdict) t,
-        solve-free n b m (s .order) (s .blockLow) (s .blockHigh) (s .rhsCount) Packed factorOf factor-shaped factor-finite matrix (s .matrixLength) rhs
-        (clear n plainWork) (s .rhsLength) (omega (arith, length-clear n plainWork (s .plainWorkLength), s .plainWorkLength)))
+        rw (
+          plain-factor,
+          all-finished Packed n b verdict t,
+          is-true (accepted verdict) t,
+          solve-free n b m (s .order) (s .blockLow) (s .blockHigh) (s .rhsCount) Packed factorOf factor-shaped factor-finite matrix (s .matrixLength) rhs
+              (clear n plainWork) (s .rhsLength) (omega (arith, length-clear n plainWork (s .plainWorkLength), s .plainWorkLength)),
+        )
         refl
 
     abbrev solvedBlocks : Solved
@@ -270,7 +276,7 @@ module _ (n b m : ℕ) (matrix rhs plainWork blockedWork : List Float) (v : T (a
     work-length : length (solvedBlocks .work) ≡ length blockedWork
     work-length =
         let twice : length (clear (blockWork n b) clearedWork) ≡ length clearedWork =
-            length-clear (blockWork n b) clearedWork (omega (arith, cleared-length, s .blockedWorkLength))
+        length-clear (blockWork n b) clearedWork (omega (arith, cleared-length, s .blockedWorkLength))
         in
         free-work n m factorOf rhs (clear (blockWork n b) clearedWork) (omega (arith, twice, cleared-length, s .blockedWorkLength, work-enough))
         ∙ twice ∙ cleared-length
@@ -293,18 +299,25 @@ module _ (n b m : ℕ) (matrix rhs plainWork blockedWork : List Float) (v : T (a
     blocked-ended :
         blockedPipeline n b m matrix rhs blockedWork
         ≡ record {
-            factorResult = verdict;
-            solverResult = solvedBlocks .result;
-            matrix = store (placeOf Packed n b) factorOf matrix;
-            rhs = solvedBlocks .rhs;
-            work = clear (blockWork n b) (solvedBlocks .work) }
+          factorResult = verdict;
+          solverResult = solvedBlocks .result;
+          matrix = store (placeOf Packed n b) factorOf matrix;
+          rhs = solvedBlocks .rhs;
+          work = clear (blockWork n b) (solvedBlocks .work);
+        }
     unfolding blockedPipeline
     blocked-ended =
-        rw (there, blocked-factor, all-finished Blocked n b verdict t, is-true (accepted verdict) t,
-        solve-free n b m (s .order) (s .blockLow) (s .blockHigh) (s .rhsCount) Blocked factorOf factor-shaped factor-finite inBlocks moved-length rhs
-        (clear (blockWork n b) clearedWork) (s .rhsLength)
-        (omega (arith, length-clear (blockWork n b) clearedWork (omega (arith, cleared-length, s .blockedWorkLength)), cleared-length, s .blockedWorkLength, work-enough)),
-        back, back-matrix)
+        rw (
+          there,
+          blocked-factor,
+          all-finished Blocked n b verdict t,
+          is-true (accepted verdict) t,
+          solve-free n b m (s .order) (s .blockLow) (s .blockHigh) (s .rhsCount) Blocked factorOf factor-shaped factor-finite inBlocks moved-length rhs
+              (clear (blockWork n b) clearedWork) (s .rhsLength)
+              (omega (arith, length-clear (blockWork n b) clearedWork (omega (arith, cleared-length, s .blockedWorkLength)), cleared-length, s .blockedWorkLength, work-enough)),
+          back,
+          back-matrix,
+        )
         refl
 
 pub pipelines-agree : PipelinesAgree
@@ -314,7 +327,8 @@ pipelines-agree n b m matrix rhs pw bw v s =
       solvers = λ t.
           ap (λ (e : Ended). e .solverResult) (plain t) ∙ free-same n m l rhs (clear n pw) work .0 ∙ sym (ap (λ (e : Ended). e .solverResult) (block t));
       rhs = λ t. ap (λ (e : Ended). e .rhs) (plain t) ∙ free-same n m l rhs (clear n pw) work .1 ∙ sym (ap (λ (e : Ended). e .rhs) (block t));
-      matrix = λ t. ap (λ (e : Ended). e .matrix) (plain t) ∙ sym (ap (λ (e : Ended). e .matrix) (block t)) }
+      matrix = λ t. ap (λ (e : Ended). e .matrix) (plain t) ∙ sym (ap (λ (e : Ended). e .matrix) (block t));
+    }
   where
     l : Triangle
     l = factorOf n b m matrix rhs pw bw v s
@@ -341,5 +355,6 @@ pipelines-agree n b m matrix rhs pw bw v s =
           solverResult = d .result;
           matrix = store (placeOf Packed n b) l matrix;
           rhs = d .rhs;
-          work = clear (blockWork n b) (d .work) })
+          work = clear (blockWork n b) (d .work);
+        })
     block t = blocked-ended n b m matrix rhs pw bw v s (ok t)

@@ -15,7 +15,6 @@ use Rattle.calls.specs.declared.CallResult.{CallResult}
 use Rattle.calls.specs.Sequences.{all}
 use Rattle.calls.specs.declared.Layout.{Layout}
 use Rattle.calls.specs.declared.Layout.the-variants.{Packed, Blocked}
-
 use Rattle.calls.specs.declared.Call.{Call}
 use Rattle.calls.specs.declared.Call.the-variants.{Rearranger, Factor, Solver}
 use Rattle.calls.specs.Refusals.{neededWork, byBlocks, success, refusal, refuseIf, firstRefusal, rule1, rule2, rule3, rule4, rule5, rule6, rule7}

@@ -96,10 +96,11 @@ unfolding minusProducts
 squares-below x zero t f h xs = (f, finite-below t h)
 squares-below x (suc k) t f h xs =
     let before : T (fits binary64 (minusProducts x x k t)) × T (belowInfinity (minusProducts x x k t)) =
-        squares-below x k t f h (λ i p. xs i (omega arith))
-    in
-    (sub-fits binary64 (minusProducts x x k t) (mul binary64 (x k) (x k)),
-    difference-below (minusProducts x x k t) (x k) (before .0) (before .1) (xs k (omega arith)))
+    squares-below x k t f h (λ i p. xs i (omega arith))
+    in (
+      sub-fits binary64 (minusProducts x x k t) (mul binary64 (x k) (x k)),
+      difference-below (minusProducts x x k t) (x k) (before .0) (before .1) (xs k (omega arith)),
+    )
 
 -- ---- accepted columns are finite
 
@@ -117,10 +118,10 @@ pub column-accepted :
 unfolding columnRules rule11
 column-accepted heightOf a l j t =
     let two : T (accepted (rule10 j (judged (pivot a l j)))) × T (accepted (firstRefusal (rule11 j (below heightOf a j l) ∷ []))) =
-        first-accepted (rule10 j (judged (pivot a l j))) (rule11 j (below heightOf a j l) ∷ []) t
+    first-accepted (rule10 j (judged (pivot a l j))) (rule11 j (below heightOf a j l) ∷ []) t
     in
     let last : T (accepted (rule11 j (below heightOf a j l))) × T (accepted (firstRefusal [])) =
-        first-accepted (rule11 j (below heightOf a j l)) [] (two .1)
+    first-accepted (rule11 j (below heightOf a j l)) [] (two .1)
     in
     (judged-accepted j (pivot a l j) (two .0), not-not (all finite (below heightOf a j l)) (not-refused (not (all finite (below heightOf a j l))) 10 j zero64 (last .0)))
 
@@ -146,14 +147,15 @@ module _ (n : ℕ) (a : Triangle) (given : FiniteMatrix n a) where
   columns-finite zero le pass i j e h = absurd (omega arith)
   columns-finite (suc k) le pass i j e h =
       let before : FiniteColumns k = columns-finite k (omega arith) (λ c p. pass c (omega arith)) in
-      elim (decLt j k)
-      [ yes p ↦ subst (λ x. T (finite x)) (entry-kept n a k (suc k) i j p h) (before i j e p)
-      | no p ↦
-          let here : j ≡ k = omega arith in
-          let passed : T (positive (pivot a (columns n a k) k)) × T (all finite (below (height n) a k (columns n a k))) =
-              column-accepted (height n) a (columns n a k) k (pass k (omega arith))
-          in
-          rw here (last here before passed (decLt k i)) ]
+      elim (decLt j k) [
+        | yes p ↦ subst (λ x. T (finite x)) (entry-kept n a k (suc k) i j p h) (before i j e p)
+        | no p ↦
+            let here : j ≡ k = omega arith in
+            let passed : T (positive (pivot a (columns n a k) k)) × T (all finite (below (height n) a k (columns n a k))) =
+            column-accepted (height n) a (columns n a k) k (pass k (omega arith))
+            in
+            rw here (last here before passed (decLt k i))
+      ]
     where
       last :
           j ≡ k → FiniteColumns k → T (positive (pivot a (columns n a k) k)) × T (all finite (below (height n) a k (columns n a k))) → Dec (k < i) →
@@ -165,7 +167,7 @@ module _ (n : ℕ) (a : Triangle) (given : FiniteMatrix n a) where
       last here before passed (no q) =
           let diagonal : i ≡ k = omega (arith, e .lower) in
           let pv : T (fits binary64 (pivot a (columns n a k) k)) × T (belowInfinity (pivot a (columns n a k) k)) =
-              pivot-below k (omega arith) before
+          pivot-below k (omega arith) before
           in
           rw diagonal
           (subst (λ x. T (finite x)) (sym (entry-diagonal n a (suc k) k (omega arith)))

@@ -48,7 +48,8 @@ module _ (n : ℕ) (a : Triangle) where
         below = λ i j lt h.
             entry-quotient n a n i j (omega arith) lt h
             ∙ ap (λ d. quotient a (columns n a j) d j i) (sym (entry-diagonal n a n j (omega arith)))
-            ∙ quotient-kept (entry (columns n a n) j j) i j n (omega arith) }
+            ∙ quotient-kept (entry (columns n a n) j j) i j n (omega arith);
+      }
 
 -- ---- the substitutions
 
@@ -56,17 +57,18 @@ module _ (n : ℕ) (a : Triangle) where
 pub getD-reverse : {A : Type 0} (l : List A) (i : ℕ) (d : A) → i < length l → getD (reverse l) i d ≡ getD l (length l - 1 - i) d
 getD-reverse [] i d h = absurd (omega arith)
 getD-reverse (x ∷ xs) i d h =
-    elim (decLt i (length xs))
-    [ yes p ↦
-        let e : suc (length xs) - 1 - i ≡ suc (length xs - 1 - i) = omega arith in
-        ap (λ l. getD l i d) (reverse-cons x xs)
-        ∙ List·getD-append (reverse xs) (x ∷ []) d i (omega (arith, length-reverse xs))
-        ∙ getD-reverse xs i d p
-        ∙ ap (λ k. getD (x ∷ xs) k d) (sym e)
-    | no p ↦
-        let e : suc (length xs) - 1 - i ≡ 0 = omega arith in
-        let last : length (reverse xs) ≡ i = omega (arith, length-reverse xs) in
-        ap (λ l. getD l i d) (reverse-cons x xs) ∙ getD-at (reverse xs) x [] d i last ∙ ap (λ k. getD (x ∷ xs) k d) (sym e) ]
+    elim (decLt i (length xs)) [
+      | yes p ↦
+          let e : suc (length xs) - 1 - i ≡ suc (length xs - 1 - i) = omega arith in
+          ap (λ l. getD l i d) (reverse-cons x xs)
+          ∙ List·getD-append (reverse xs) (x ∷ []) d i (omega (arith, length-reverse xs))
+          ∙ getD-reverse xs i d p
+          ∙ ap (λ k. getD (x ∷ xs) k d) (sym e)
+      | no p ↦
+          let e : suc (length xs) - 1 - i ≡ 0 = omega arith in
+          let last : length (reverse xs) ≡ i = omega (arith, length-reverse xs) in
+          ap (λ l. getD l i d) (reverse-cons x xs) ∙ getD-at (reverse xs) x [] d i last ∙ ap (λ k. getD (x ∷ xs) k d) (sym e)
+    ]
 
 -- y(i) = (value i − l(i,k)·y(k) for k = 0 .. i−1) / l(i,i), and x(i) = (y(i) − l(k,i)·x(k) for k = n−1 down to i+1) / l(i,i):
 -- the product subtracted c-th is that of k = n−1−c
@@ -98,9 +100,9 @@ module _ (n : ℕ) (l : Triangle) (rhs : List Float) where
   forward-entry i h =
       getD-grow nextForward n i nan h
       ∙ ap (λ t. div binary64 t (entry l i i))
-        (products-same (λ k. entry l i k) (λ k. entry l i k) (λ k. getD (grow nextForward i) k nan) (λ k. getD (grow nextForward n) k nan) i
-        (getD rhs i nan) (λ k p. refl)
-        (λ k p. getD-grow nextForward i k nan p ∙ sym (getD-grow nextForward n k nan (omega arith))))
+      (products-same (λ k. entry l i k) (λ k. entry l i k) (λ k. getD (grow nextForward i) k nan) (λ k. getD (grow nextForward n) k nan) i
+      (getD rhs i nan) (λ k p. refl)
+      (λ k p. getD-grow nextForward i k nan p ∙ sym (getD-grow nextForward n k nan (omega arith))))
 
 module _ (n : ℕ) (l : Triangle) (y : List Float) where
   abbrev nextBackward : ℕ → List Float → Float
@@ -138,15 +140,15 @@ module _ (n : ℕ) (l : Triangle) (y : List Float) where
       (i : ℕ) → i < n →
       getD (backward n l y) i nan
       ≡ div binary64 (minusProducts (λ c. entry l (n - 1 - c) i) (λ c. getD (backward n l y) (n - 1 - c) nan) (n - 1 - i) (getD y i nan))
-        (entry l i i)
+      (entry l i i)
   backward-entry i h =
       let d : ℕ = n - 1 - i in
       let back : n - 1 - d ≡ i = omega arith in
       getD-backward i h ∙ row-entry d (omega arith)
       ∙ ap (λ r. div binary64 (minusProducts (λ k. entry l (n - 1 - k) r) (λ k. getD (grow nextBackward d) k nan) d (getD y r nan)) (entry l r r)) back
       ∙ ap (λ t. div binary64 t (entry l i i))
-        (products-same (λ c. entry l (n - 1 - c) i) (λ c. entry l (n - 1 - c) i) (λ k. getD (grow nextBackward d) k nan)
-        (λ c. getD (backward n l y) (n - 1 - c) nan) d (getD y i nan) (λ k p. refl) (λ k p. row-kept d k p (omega arith)))
+      (products-same (λ c. entry l (n - 1 - c) i) (λ c. entry l (n - 1 - c) i) (λ k. getD (grow nextBackward d) k nan)
+      (λ c. getD (backward n l y) (n - 1 - c) nan) d (getD y i nan) (λ k p. refl) (λ k p. row-kept d k p (omega arith)))
 
 pub solution-entries : (n : ℕ) (l : Triangle) (rhs : List Float) → SolutionEntries n l rhs (forward n l rhs) (backward n l (forward n l rhs))
 solution-entries n l rhs =
@@ -154,4 +156,5 @@ solution-entries n l rhs =
       yLength = length-forward n l rhs;
       xLength = length-backward n l (forward n l rhs);
       forwardEntry = forward-entry n l rhs;
-      backwardEntry = backward-entry n l (forward n l rhs) }
+      backwardEntry = backward-entry n l (forward n l rhs);
+    }

@@ -4,6 +4,7 @@ pub mod Triangles
 pub mod Refusals
 pub mod Columns
 pub mod Checks
+pub mod Judging
 pub mod CheckLaws
 pub mod Rearranging
 pub mod Agreement

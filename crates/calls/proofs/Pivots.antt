@@ -46,10 +46,10 @@ verdict-10 n a given e =
     let found : Lowest judge n (columnsVerdict n a) = lowest-refused judge n (subst (λ c. T (not (eqb c 0))) (sym e) tt) in
     let j : ℕ = found .at in
     let here : (judge j .value ≡ pivot a (columns n a j) j) × T (not (positive (pivot a (columns n a j) j))) =
-        column-10 (height n) a (columns n a j) j (ap (λ (r : CallResult). r .code) (sym (found .there)) ∙ e)
+    column-10 (height n) a (columns n a j) j (ap (λ (r : CallResult). r .code) (sym (found .there)) ∙ e)
     in
     let is : columnsVerdict n a .value ≡ pivot a (columns n a j) j = ap (λ (r : CallResult). r .value) (found .there) ∙ here .0 in
     let under : T (belowInfinity (pivot a (columns n a j) j)) =
-        pivot-below n a given j (found .inside) (columns-finite n a given j (omega (arith, found .inside)) (found .before)) .1
+    pivot-below n a given j (found .inside) (columns-finite n a given j (omega (arith, found .inside)) (found .before)) .1
     in
     subst RefusedPivot (sym is) (record { value = below-cases (pivot a (columns n a j) j) under; notPositive = here .1 })

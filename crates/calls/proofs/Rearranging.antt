@@ -36,5 +36,5 @@ unfolding moved
 moved-back from to n b h m e =
     ap (λ t. store (placeOf from n b) t (moved from to n b m)) (load-moved from to n b h m e)
     ∙ store-whole (placeOf from n b) n (layout-bijection from n b h) (load (placeOf from n b) (height n) n m) (moved from to n b m) m
-      (shaped-load (placeOf from n b) n m) (length-moved from to n b h m e) e
+    (shaped-load (placeOf from n b) n m) (length-moved from to n b h m e) e
     ∙ store-load (placeOf from n b) n (layout-bijection from n b h) m e

@@ -65,9 +65,10 @@ pub lowest-accepted : (judge : ℕ → CallResult) (n : ℕ) → T (accepted (lo
 unfolding lowestRefusal
 lowest-accepted judge zero t k h = absurd (omega arith)
 lowest-accepted judge (suc n) t k h =
-    elim (decLt k n)
-    [ yes p ↦ lowest-accepted judge n (both .0) k p
-    | no p ↦ let e : k ≡ n = omega arith in rw e (both .1) ]
+    elim (decLt k n) [
+      | yes p ↦ lowest-accepted judge n (both .0) k p
+      | no p ↦ let e : k ≡ n = omega arith in rw e (both .1)
+    ]
   where
     go : (b : Bool) → accepted (lowestRefusal judge n) ≡ b → T (accepted (cond b (judge n) (lowestRefusal judge n))) → T (accepted (lowestRefusal judge n)) × T (accepted (judge n))
     go true e s = (rw e tt, s)

@@ -25,19 +25,21 @@ module _ {A : Type 0} (next : ℕ → List A → A) where
   unfolding grow
   getD-grow zero i d h = absurd (omega arith)
   getD-grow (suc k) i d h =
-      elim (decLt i k)
-      [ yes p ↦ List·getD-append (grow next k) _ d i (omega (arith, length-grow k)) ∙ getD-grow k i d p
-      | no p ↦ let e : i ≡ k = omega arith in rw e (getD-at (grow next k) (next k (grow next k)) [] d k (length-grow k)) ]
+      elim (decLt i k) [
+        | yes p ↦ List·getD-append (grow next k) _ d i (omega (arith, length-grow k)) ∙ getD-grow k i d p
+        | no p ↦ let e : i ≡ k = omega arith in rw e (getD-at (grow next k) (next k (grow next k)) [] d k (length-grow k))
+      ]
 
   pub take-grow : (n i : ℕ) → i ≤ n → take i (grow next n) ≡ grow next i
   unfolding grow
   take-grow zero i h = let e : i ≡ 0 = omega arith in rw e
   take-grow (suc k) i h =
-      elim (decLt k i)
-      [ yes p ↦
-          let e : i ≡ suc k = omega arith in
-          rw e (take-all (suc k) (grow next (suc k)) (omega (arith, length-grow (suc k))))
-      | no p ↦ take-append-le i (grow next k) _ (omega (arith, length-grow k)) ∙ take-grow k i (omega arith) ]
+      elim (decLt k i) [
+        | yes p ↦
+            let e : i ≡ suc k = omega arith in
+            rw e (take-all (suc k) (grow next (suc k)) (omega (arith, length-grow (suc k))))
+        | no p ↦ take-append-le i (grow next k) _ (omega (arith, length-grow k)) ∙ take-grow k i (omega arith)
+      ]
 
 module _ {A : Type 0} (f : ℕ → A) where
   pub length-tabulate : (n : ℕ) → length (tabulate n f) ≡ n

@@ -48,7 +48,8 @@ module _ (place : ℕ → ℕ → ℕ) (n : ℕ) (m : List Float) where
   shaped-load =
       record {
         count = length-tabulate (λ c. tabulate (n - c) (λ r. getD m (place (c + r) c) nan)) n;
-        heights = λ j h. ap length (column-load j h) ∙ length-tabulate (λ r. getD m (place (j + r) j) nan) (n - j) }
+        heights = λ j h. ap length (column-load j h) ∙ length-tabulate (λ r. getD m (place (j + r) j) nan) (n - j);
+      }
 
   pub entry-load : (i j : ℕ) → Entry n i j → entry (load place (height n) n m) i j ≡ getD m (place i j) nan
   unfolding entry
@@ -89,10 +90,10 @@ module _ (place : ℕ → ℕ → ℕ) (n : ℕ) (bij : Bijection place n) where
       let room : place (j + (i - j)) j < length m = rw back (omega arith) in
       let row : (r : ℕ) → r < length c → Entry n (j + r) j = λ r p. record { lower = omega arith; inside = omega arith } in
       let apart : (r s : ℕ) → r < length c → s < length c → place (j + r) j ≡ place (j + s) j → r ≡ s =
-          λ r s p q g. let z : j + r ≡ j + s = bij .apart (j + r) j (j + s) j (row r p) (row s q) g .0 in omega arith
+      λ r s p q g. let z : j + r ≡ j + s = bij .apart (j + r) j (j + s) j (row r p) (row s q) g .0 in omega arith
       in
       let at : getD (storeColumn place j c m) (place (j + (i - j)) j) d ≡ getD c (i - j) nan =
-          writes-same (λ r. place (j + r) j) (λ r. getD c r nan) m (length c) apart (i - j) d (omega arith) room
+      writes-same (λ r. place (j + r) j) (λ r. getD c r nan) m (length c) apart (i - j) d (omega arith) room
       in
       rw back at at
 
@@ -113,14 +114,15 @@ module _ (place : ℕ → ℕ → ℕ) (n : ℕ) (bij : Bijection place n) where
     unfolding iterate entry
     stored-same zero hs i j d e h = absurd (omega arith)
     stored-same (suc k) hs i j d e h =
-        elim (decLt j k)
-        [ yes p ↦
-            column-other (getD t k []) (stored place t k m) i j k d e (λ g. omega arith) (hs k (omega arith))
-            ∙ stored-same k (λ c q. hs c (omega arith)) i j d e p
-        | no p ↦
-            let g : k ≡ j = omega arith in
-            rw g
-            (column-same (getD t j []) (stored place t j m) i j d e (hs j h) (omega (arith, length-stored t j m))) ]
+        elim (decLt j k) [
+          | yes p ↦
+              column-other (getD t k []) (stored place t k m) i j k d e (λ g. omega arith) (hs k (omega arith))
+              ∙ stored-same k (λ c q. hs c (omega arith)) i j d e p
+          | no p ↦
+              let g : k ≡ j = omega arith in
+              rw g
+              (column-same (getD t j []) (stored place t j m) i j d e (hs j h) (omega (arith, length-stored t j m)))
+        ]
 
     pub stored-other :
         (k : ℕ) → ((j : ℕ) → j < k → length (getD t j []) ≡ n - j) →

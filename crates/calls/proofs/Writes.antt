@@ -32,12 +32,13 @@ module _ {A : Type 0} (place : ℕ → ℕ) (value : ℕ → A) (m : List A) whe
   unfolding iterate
   writes-same zero apart r d h q = absurd (omega arith)
   writes-same (suc k) apart r d h q =
-      elim (decLt r k)
-      [ yes p ↦
-          getD-set-other (writes place value k m) (place k) (place r) (value k) d
-          (λ e. let z : r ≡ k = apart r k h (omega arith) e in omega arith)
-          ∙ writes-same k (λ x y a b. apart x y (omega arith) (omega arith)) r d p q
-      | no p ↦
-          let e : r ≡ k = omega arith in
-          let inside : place k < length m = rw e at q in
-          rw e (getD-set-same (writes place value k m) (place k) (value k) d (omega (arith, length-writes k))) ]
+      elim (decLt r k) [
+        | yes p ↦
+            getD-set-other (writes place value k m) (place k) (place r) (value k) d
+            (λ e. let z : r ≡ k = apart r k h (omega arith) e in omega arith)
+            ∙ writes-same k (λ x y a b. apart x y (omega arith) (omega arith)) r d p q
+        | no p ↦
+            let e : r ≡ k = omega arith in
+            let inside : place k < length m = rw e at q in
+            rw e (getD-set-same (writes place value k m) (place k) (value k) d (omega (arith, length-writes k)))
+      ]

@@ -88,7 +88,8 @@ factored layout n b matrix work =
     record {
       result = verdict;
       matrix = store (placeOf layout n b) (cholesky (height n) a (finished layout n b verdict)) matrix;
-      work = clear (neededWork (Factor layout) n b) work }
+      work = clear (neededWork (Factor layout) n b) work;
+    }
 
 unfoldable pub factorize : Layout → ℕ → ℕ → List Float → List Float → Done
 factorize layout n b matrix work =
@@ -125,7 +126,8 @@ solved layout n b m matrix rhs work =
     record {
       result = verdict;
       rhs = solutions n l (cond (accepted verdict) m (verdict .place)) rhs;
-      work = clear (neededWork (Solver layout) n b) work }
+      work = clear (neededWork (Solver layout) n b) work;
+    }
 
 unfoldable pub solve : Layout → ℕ → ℕ → ℕ → List Float → List Float → List Float → Solved
 solve layout n b m matrix rhs work =

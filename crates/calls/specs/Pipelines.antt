@@ -12,7 +12,6 @@ use Rattle.shape.specs.Places.{triangle, blockWork}
 use Rattle.calls.specs.declared.CallResult.{CallResult}
 use Rattle.calls.specs.Sequences.{all}
 use Rattle.calls.specs.declared.Layout.the-variants.{Packed, Blocked}
-
 use Rattle.calls.specs.Refusals.{accepted}
 use Rattle.calls.specs.Calls.{packedToBlocked, blockedToPacked, factorize, solve}
 

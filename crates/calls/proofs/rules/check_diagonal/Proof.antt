@@ -18,7 +18,8 @@ use Rattle.calls.specs.declared.Layout.the-variants.{Packed, Blocked}
 use Rattle.calls.specs.declared.Call.the-variants.{Solver}
 use Rattle.calls.specs.Triangles.{placeOf}
 use Rattle.calls.specs.Refusals.{success, refusal, lowestRefusal, byBlocks, rule9}
-use Rattle.calls.proofs.CheckLaws.{lowest-next, lowest-found, positiveAt}
+use Rattle.calls.proofs.Judging.{lowest-next, lowest-found}
+use Rattle.calls.proofs.CheckLaws.{positiveAt}
 use Rattle.calls.proofs.rules.check_diagonal.Statement.{statement}
 use Rattle.calls.proofs.rules.check_diagonal.Tie as tie
 

@@ -6,7 +6,8 @@ use lib.ListN.{length}
 use Rattle.calls.specs.declared.Call.the-variants.{Factor}
 use Rattle.calls.specs.Refusals.{rule7}
 use Rattle.calls.specs.Calls.{factorChecks}
-use Rattle.calls.proofs.CheckLaws.{refused-of, accepted-of, first-decided, first-continued, finite-alone, sizeRules}
+use Rattle.calls.proofs.Judging.{refused-of, accepted-of, first-decided, first-continued}
+use Rattle.calls.proofs.CheckLaws.{finite-alone, sizeRules}
 use Rattle.calls.proofs.rules.check_factor.Statement.{statement}
 use Rattle.calls.proofs.rules.check_factor.Tie as tie
 

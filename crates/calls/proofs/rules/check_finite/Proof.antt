@@ -14,7 +14,8 @@ use Rattle.binary64.specs.Kinds.{finite, zero64}
 use Rattle.calls.specs.Sequences.{all}
 use Rattle.calls.specs.Refusals.{success, refusal, lowestRefusal, finiteRule}
 use Rattle.calls.proofs.Refusals.{finite-rule}
-use Rattle.calls.proofs.CheckLaws.{lowest-next, lowest-found, finiteAt, finite-accepted}
+use Rattle.calls.proofs.Judging.{lowest-next, lowest-found}
+use Rattle.calls.proofs.CheckLaws.{finiteAt, finite-accepted}
 use Rattle.calls.proofs.rules.check_finite.Statement.{statement}
 use Rattle.calls.proofs.rules.check_finite.Tie as tie
 

@@ -10,7 +10,7 @@ use lib.Dec.{ltb}
 use Rattle.shape.specs.Bounds.{maxRhs}
 use Rattle.shape.proofs.Bounds.{product-fits}
 use Rattle.calls.specs.Refusals.{firstRefusal, rule5, rule6}
-use Rattle.calls.proofs.CheckLaws.{not-leb}
+use Rattle.calls.proofs.Judging.{not-leb}
 use Rattle.calls.proofs.rules.check_rhs.Statement.{statement}
 use Rattle.calls.proofs.rules.check_rhs.Tie as tie
 

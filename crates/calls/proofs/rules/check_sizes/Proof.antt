@@ -9,7 +9,7 @@ use lib.Dec.{leb, ltb, eqb}
 use Rattle.shape.specs.Bounds.{maxOrder, maxBlock}
 use Rattle.shape.specs.Places.{triangle}
 use Rattle.calls.specs.Refusals.{firstRefusal, byBlocks, neededWork, rule1, rule2, rule3, rule4}
-use Rattle.calls.proofs.CheckLaws.{not-leb}
+use Rattle.calls.proofs.Judging.{not-leb}
 use Rattle.calls.proofs.rules.check_sizes.Statement.{statement}
 use Rattle.calls.proofs.rules.check_sizes.Tie as tie
 

@@ -10,7 +10,8 @@ use Rattle.calls.specs.declared.Call.the-variants.{Solver}
 use Rattle.calls.specs.Triangles.{placeOf}
 use Rattle.calls.specs.Refusals.{accepted, firstRefusal, rule5, rule6, rule7, rule8, rule9}
 use Rattle.calls.specs.Calls.{solverChecks}
-use Rattle.calls.proofs.CheckLaws.{refused-of, accepted-of, first-decided, first-continued, finite-alone, rule9-alone, SizesAccepted, sizeRules, sizes-accepted}
+use Rattle.calls.proofs.Judging.{refused-of, accepted-of, first-decided, first-continued}
+use Rattle.calls.proofs.CheckLaws.{finite-alone, rule9-alone, SizesAccepted, sizeRules, sizes-accepted}
 use Rattle.calls.proofs.rules.check_solver.Statement.{statement}
 use Rattle.calls.proofs.rules.check_solver.Tie as tie
 
