@@ -1,9 +1,9 @@
 -- Demand 3: the plain and the blocked pipeline agree. Both factors see the matrix free of its layout, both solvers the same factor, and the way back
 -- to packed order writes the same memory. An accepted factor is finite, so rule 7 names no place that a layout decides. Assumes nothing.
-use Prim.Native.Nat.{ℕ, zero, suc, _+_, _-_, _*_, _≤_, _<_, min}
+use Prim.Native.Nat.{ℕ, zero, suc, _*_, _≤_, _<_, min}
 use native.Mathlib.Nat.{mul-le-mul-left}
 use native.Mathlib.Omega.{arith}
-use mathlib.Core.Path.{_≡_, refl, sym, ap, ap₂, _∙_, subst}
+use mathlib.Core.Path.{_≡_, refl, sym, ap, _∙_, subst}
 use mathlib.Core.Bool.{Bool, true, false, cond, not}
 use mathlib.Core.List.{List, [], _∷_}
 use lib.Dec.{T}
@@ -12,18 +12,17 @@ use lib.Ieee.{Float, nan, binary64, fits}
 use lib.Ieee.Bits.{is-true}
 use Rattle.binary64.specs.Kinds.{finite, positive, zero64}
 use Rattle.shape.specs.Bounds.{maxOrder, maxBlock, maxRhs}
-use Rattle.shape.specs.Places.{triangle, blockOf, blockWork}
+use Rattle.shape.specs.Places.{triangle, blockWork}
 use Rattle.shape.specs.Layouts.{Entry, Bijection}
 use Rattle.calls.specs.declared.CallResult.{CallResult}
 use Rattle.calls.specs.Sequences.{all}
 use Rattle.calls.specs.declared.Layout.{Layout}
 use Rattle.calls.specs.declared.Layout.the-variants.{Packed, Blocked}
 use Rattle.calls.specs.Triangles.{Triangle, entry, placeOf, height, load, store}
-use Rattle.calls.specs.declared.Call.{Call}
 use Rattle.calls.specs.declared.Call.the-variants.{Rearranger, Factor, Solver}
 use Rattle.calls.specs.Refusals.{neededWork, success, accepted, refusal, refuseIf, firstRefusal, lowestRefusal, columnRules, rule5, rule6, rule7, rule8, rule9}
-use Rattle.calls.specs.Calls.{Done, Solved, clear, rearrange, moved, columnsVerdict, finished, factored, factorize, factorChecks, solverChecks, rhsVerdict, solutions, solved, solve}
-use Rattle.calls.specs.Pipelines.{Ended, plainPipeline, blockedPipeline, Start, Agreement, PipelinesAgree}
+use Rattle.calls.specs.Calls.{Solved, clear, rearrange, moved, columnsVerdict, finished, factored, factorize, solverChecks, rhsVerdict, solutions, solved, solve}
+use Rattle.calls.specs.Pipelines.{Ended, plainPipeline, blockedPipeline, Start, PipelinesAgree}
 use Rattle.calls.proofs.Sequences.{all-at, all-of}
 use Rattle.calls.proofs.Triangles.{Shaped, shaped-load, entry-load, length-store, store-same, load-store, store-whole}
 use Rattle.calls.proofs.Refusals.{first-passes, lowest-same, lowest-accepted, finite-rule}

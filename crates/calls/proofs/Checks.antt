@@ -1,22 +1,21 @@
 -- When the rules before any work pass: rules 1 to 6 by numbers, rule 7 on stored finite columns. Assumes nothing.
-use Prim.Native.Nat.{ℕ, zero, suc, _+_, _-_, _*_, _≤_, _<_, min}
+use Prim.Native.Nat.{ℕ, _*_, _≤_}
 use native.Mathlib.Omega.{arith}
-use mathlib.Core.Path.{_≡_, refl, sym, ap, _∙_, subst}
-use mathlib.Core.Bool.{Bool, true, false, cond, not, _&&_, _||_}
-use mathlib.Core.List.{List, [], _∷_, _++_}
+use mathlib.Core.Path.{_≡_, refl, ap, _∙_}
+use mathlib.Core.Bool.{Bool, true, false, not, _&&_, _||_}
+use mathlib.Core.List.{List, [], _∷_}
 use borrow.Author.Tests.{le-ltb, eq-eqb, ne-eqb}
-use lib.Dec.{T, ltb, eqb}
+use lib.Dec.{T}
 use lib.ListN.{length, drop, replicate, length-append, length-replicate, length-drop}
 use lib.Ieee.{Float}
 use Rattle.binary64.specs.Kinds.{finite, zero64}
 use Rattle.shape.specs.Bounds.{maxOrder, maxBlock, maxRhs}
-use Rattle.shape.specs.Places.{triangle, blockWork}
+use Rattle.shape.specs.Places.{triangle}
 use Rattle.calls.specs.declared.CallResult.{CallResult}
 use Rattle.calls.specs.Sequences.{all}
 use Rattle.calls.specs.declared.Layout.{Layout}
-use Rattle.calls.specs.declared.Layout.the-variants.{Packed, Blocked}
 use Rattle.calls.specs.declared.Call.{Call}
-use Rattle.calls.specs.declared.Call.the-variants.{Rearranger, Factor, Solver}
+use Rattle.calls.specs.declared.Call.the-variants.{Rearranger, Factor}
 use Rattle.calls.specs.Refusals.{neededWork, byBlocks, success, refusal, refuseIf, firstRefusal, rule1, rule2, rule3, rule4, rule5, rule6, rule7}
 use Rattle.calls.specs.Calls.{clear, rearrangerChecks, factorChecks}
 use Rattle.calls.proofs.Refusals.{first-passes, finite-rule}

@@ -5,9 +5,8 @@ use native.Mathlib.Nat.{sub-self}
 use native.Mathlib.Omega.{arith}
 use native.Mathlib.Decide.{decLt}
 use mathlib.Core.Path.{_≡_, refl, sym, ap, ap₂, _∙_, subst}
-use mathlib.Core.Logic.{_⊎_, inl, inr}
 use mathlib.Core.Bool.{Bool, true, false, cond, not}
-use mathlib.Core.List.{List, [], _∷_}
+use mathlib.Core.List.{[], _∷_}
 use lib.Dec.{T}
 use lib.ListN.{length, getD}
 use lib.Ieee.{Float, nan, binary64, fits, sub, mul}
@@ -16,14 +15,13 @@ use Rattle.binary64.specs.Kinds.{finite, positive, belowInfinity, zero64}
 use Rattle.binary64.specs.Root.{root}
 use Rattle.binary64.specs.Judged.{judged}
 use Rattle.binary64.specs.declared.Pivot.the-variants.{Root, Refused}
-use Rattle.binary64.proofs.Differences.{difference-below, finite-below, below-finite, below-cases}
+use Rattle.binary64.proofs.Differences.{difference-below, finite-below, below-finite}
 use Rattle.binary64.proofs.RootLaws.{root-finite}
 use Rattle.shape.specs.Layouts.{Entry}
-use Rattle.calls.specs.declared.CallResult.{CallResult}
 use Rattle.calls.specs.Sequences.{all}
 use Rattle.calls.specs.Triangles.{Triangle, entry, height}
 use Rattle.calls.specs.Arithmetic.{minusProducts, pivot, quotient, below, factorColumn, cholesky}
-use Rattle.calls.specs.Refusals.{accepted, refusal, refuseIf, firstRefusal, rule10, rule11, columnRules}
+use Rattle.calls.specs.Refusals.{accepted, firstRefusal, rule10, rule11, columnRules}
 use Rattle.calls.proofs.Sequences.{length-grow, getD-grow, length-tabulate, getD-tabulate, all-at}
 use Rattle.calls.proofs.Triangles.{Shaped}
 use Rattle.calls.proofs.Refusals.{not-refused, not-not, first-accepted}

@@ -1,9 +1,9 @@
 -- Which values code 10 can give: a finite value that is not greater than zero, or −infinity where a product overflowed. No NaN, and no +infinity.
 -- Assumes nothing.
-use Prim.Native.Nat.{ℕ, _≤_, _<_}
+use Prim.Native.Nat.{ℕ}
 use native.Mathlib.Omega.{arith}
 use mathlib.Core.Path.{_≡_, refl, sym, ap, _∙_, subst}
-use mathlib.Core.Logic.{_⊎_, inl, inr}
+use mathlib.Core.Logic.{_⊎_}
 use mathlib.Core.Bool.{Bool, true, false, cond, not}
 use mathlib.Core.List.{[], _∷_}
 use lib.Dec.{T, eqb}
@@ -17,7 +17,7 @@ use Rattle.calls.specs.declared.CallResult.{CallResult}
 use Rattle.calls.specs.Sequences.{all}
 use Rattle.calls.specs.Triangles.{Triangle, height}
 use Rattle.calls.specs.Arithmetic.{pivot, below}
-use Rattle.calls.specs.Refusals.{accepted, success, refusal, refuseIf, firstRefusal, rule10, rule11, columnRules}
+use Rattle.calls.specs.Refusals.{refusal, refuseIf, firstRefusal, rule10, rule11, columnRules}
 use Rattle.calls.specs.Calls.{columnsVerdict}
 use Rattle.calls.proofs.Refusals.{Lowest, lowest-refused}
 use Rattle.calls.proofs.Columns.{columns, FiniteMatrix, pivot-below, columns-finite}

@@ -2,7 +2,7 @@
 use Prim.Native.Nat.{ℕ, zero, suc, _+_, _-_, _≤_, _<_}
 use native.Mathlib.Omega.{arith}
 use native.Mathlib.Decide.{decLt}
-use mathlib.Core.Path.{_≡_, refl, sym, ap, _∙_, subst}
+use mathlib.Core.Path.{_≡_, refl, sym, ap, _∙_}
 use mathlib.Core.Logic.{_≢_}
 use mathlib.Core.List.{List, []}
 use lib.ListN.{length, getD}
@@ -13,7 +13,7 @@ use Rattle.shape.specs.Layouts.{Entry, Bijection}
 use Rattle.calls.specs.Sequences.{iterate, tabulate}
 use Rattle.calls.specs.Triangles.{Triangle, entry, height, load, storeColumn, store}
 use Rattle.calls.proofs.Sequences.{length-tabulate, getD-tabulate}
-use Rattle.calls.proofs.Writes.{writes, length-writes, writes-other, writes-same}
+use Rattle.calls.proofs.Writes.{length-writes, writes-other, writes-same}
 
 -- the first k columns of a triangle of order n
 pub record Shaped (n k : ℕ) (t : Triangle) : Type 0 where

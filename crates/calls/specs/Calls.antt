@@ -1,5 +1,5 @@
 -- The six calls, for all inputs: what each returns and what it leaves in every memory. Codes 1 to 9 leave all memory untouched.
-use Prim.Native.Nat.{ℕ, zero, suc, _*_}
+use Prim.Native.Nat.{ℕ, _*_}
 use mathlib.Core.Path.{_≡_}
 use mathlib.Core.Bool.{cond}
 use mathlib.Core.List.{List, [], _∷_, _++_}
@@ -13,7 +13,6 @@ use Rattle.calls.specs.declared.Layout.{Layout}
 use Rattle.calls.specs.declared.Layout.the-variants.{Packed, Blocked}
 use Rattle.calls.specs.Triangles.{Triangle, placeOf, height, load, store}
 use Rattle.calls.specs.Arithmetic.{cholesky, forward, backward}
-use Rattle.calls.specs.declared.Call.{Call}
 use Rattle.calls.specs.declared.Call.the-variants.{Rearranger, Factor, Solver}
 use Rattle.calls.specs.Refusals.{neededWork, success, accepted, firstRefusal, lowestRefusal, rule1, rule2, rule3, rule4, rule5, rule6, rule7, rule8, rule9, columnRules, rule12}
 

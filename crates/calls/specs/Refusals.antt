@@ -1,5 +1,5 @@
 -- Document 01, "The list of refusals, in checking order". A rule's answer is success where its condition does not hold.
-use Prim.Native.Nat.{ℕ, zero, suc, _*_, _<_}
+use Prim.Native.Nat.{ℕ, zero, suc, _*_}
 use mathlib.Core.Bool.{Bool, true, false, cond, not, _&&_, _||_}
 use mathlib.Core.List.{List, [], _∷_}
 use lib.Dec.{ltb, eqb}
@@ -12,7 +12,7 @@ use Rattle.binary64.specs.declared.Pivot.the-variants.{Root, Refused}
 use Rattle.shape.specs.Bounds.{maxOrder, maxBlock, maxRhs}
 use Rattle.shape.specs.Places.{triangle, blockWork}
 use Rattle.calls.specs.declared.CallResult.{CallResult}
-use Rattle.calls.specs.Sequences.{iterate, all}
+use Rattle.calls.specs.Sequences.{all}
 use Rattle.calls.specs.declared.Call.{Call}
 use Rattle.calls.specs.declared.Call.the-variants.{Rearranger, Factor, Solver}
 use Rattle.calls.specs.declared.Layout.the-variants.{Packed, Blocked}
