@@ -1,21 +1,21 @@
 -- Laws of `root` on floats: where it is positive, finite, and a value of the format. Assumes nothing.
-use mathlib.Core.Path.{_≡_, refl, sym, subst}
-use mathlib.Core.Bool.{true, false}
+use mathlib.Core.Path.{_≡_, refl, sym, ap, _∙_, subst}
+use mathlib.Core.Bool.{Bool, true, false, not}
 use Prim.Native.Nat.{ℕ, zero, suc, _*_, _^_, _<_, zero-le}
 use native.Mathlib.Nat.{lt-of-le-of-lt, mul-pos, zero-mul, zero-lt-suc}
 use native.Mathlib.Omega.{arith}
 use lib.Dec.{T, ltb→lt, lt→ltb}
 use lib.Ieee.{Float, nan, inf, fin, binary64, up, down, lt, toBits, ofBits, fits}
 use lib.Ieee.Fits.{up-pos, nan-fits, inf-fits}
-use lib.Ieee.Bits.{ofBits-fits}
+use lib.Ieee.Bits.{ofBits-fits, toBits-ofBits, nanBits-is}
 use lib.Ieee.Exact.{HasValue}
 use lib.Ieee.Positive as ieee
 use lib.Ieee.Positive.{first-pos, positive-of-value}
 use Rattle.binary64.specs.Kinds.{finite, positive}
-use Rattle.binary64.specs.Root.{magnitude, rootBits, root}
+use Rattle.binary64.specs.Root.{magnitude, MidpointRule, rootBits, root}
 use Rattle.binary64.proofs.Magnitudes.{magnitude-pos}
-use Rattle.binary64.proofs.Midpoints.{root-range}
-use Rattle.binary64.proofs.Values.{pattern-value, bits-range}
+use Rattle.binary64.proofs.Midpoints.{root-range, root-rule}
+use Rattle.binary64.proofs.Values.{pattern-value, pattern-number, bits-range}
 
 -- ---- greater than zero and finite
 
@@ -68,6 +68,21 @@ module _ (x : Float) (f : T (fits binary64 x)) (g : T (finite x)) (h : T (positi
       let r = bits-range x f (positive-finite x g h) in
       let b : 0 < rootBits (toBits binary64 x) = omega (arith, root-range (toBits binary64 x) (r .0) (r .1) .0) in
       positive-of-finite (root x) (positive-of-value (root x) (magnitude (rootBits (toBits binary64 x))) (2 ^ 1074) root-value (magnitude-pos b))
+
+  -- its pattern, and document 01's rule of the value and its root
+  pub root-bits : toBits binary64 (root x) ≡ rootBits (toBits binary64 x)
+  root-bits =
+      let p = positive-finite x g h in
+      let r = bits-range x f p in
+      let range : rootBits (toBits binary64 x) < 2047 * 2 ^ 52 = root-range (toBits binary64 x) (r .0) (r .1) .1 in
+      ap (toBits binary64) (root-is x p)
+      ∙ toBits-ofBits binary64 (rootBits (toBits binary64 x)) (omega arith)
+        (subst (λ (b : Bool). T (not b)) (nanBits-is binary64 (rootBits (toBits binary64 x))) (pattern-number (rootBits (toBits binary64 x)) range))
+
+  pub root-midpoints : MidpointRule (toBits binary64 x) (toBits binary64 (root x))
+  root-midpoints =
+      let r = bits-range x f (positive-finite x g h) in
+      subst (λ (y : ℕ). MidpointRule (toBits binary64 x) y) (sym root-bits) (root-rule (toBits binary64 x) (r .0) (r .1))
 
 pub root-fits : (x : Float) → T (fits binary64 x) → T (fits binary64 (root x))
 unfolding root

@@ -1,6 +1,6 @@
 -- Demand 3: the plain and the blocked pipeline agree. Both factors see the matrix free of its layout, both solvers the same factor, and the way back
 -- to packed order writes the same memory. An accepted factor is finite, so rule 7 names no place that a layout decides. Assumes nothing.
-use Prim.Native.Nat.{ℕ, zero, suc, _*_, _≤_, _<_, min}
+use Prim.Native.Nat.{ℕ, zero, suc, _*_, _≤_, _<_, min, _+_, _/_}
 use native.Mathlib.Nat.{mul-le-mul-left}
 use native.Mathlib.Omega.{arith}
 use mathlib.Core.Path.{_≡_, refl, sym, ap, _∙_, subst}
@@ -357,3 +357,22 @@ pipelines-agree n b m matrix rhs pw bw v s =
           work = clear (blockWork n b) (d .work);
         })
     block t = blocked-ended n b m matrix rhs pw bw v s (ok t)
+
+-- the start's premises are document 01's numbers and lengths, and ask nothing of right-hand sides and work but their lengths
+pub start-of :
+    (n b m : ℕ) (matrix rhs plainWork blockedWork : List Float) →
+    n ≤ 4000 → 1 ≤ b → b ≤ 200 → m ≤ 1000 →
+    length matrix ≡ n * (n + 1) / 2 → T (all finite matrix) → length rhs ≡ n * m → n ≤ length plainWork → n * min n b ≤ length blockedWork →
+    Start n b m matrix rhs plainWork blockedWork
+unfolding triangle blockWork
+start-of n b m matrix rhs plainWork blockedWork h1 h2 h3 h4 h5 h6 h7 h8 h9 =
+    record {
+      order = h1;
+      blockLow = h2;
+      blockHigh = h3;
+      rhsCount = h4;
+      matrixLength = h5;
+      matrixFinite = h6;
+      rhsLength = h7;
+      plainWorkLength = h8;
+      blockedWorkLength = h9 }

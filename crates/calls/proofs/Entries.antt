@@ -17,10 +17,11 @@ use Rattle.calls.proofs.Columns.{columns, entry-diagonal, entry-quotien
 
 -- ---- the factor
 
--- l(j,j) is the root of s, and l(i,j) = t / l(j,j), every l being an entry of the one factor l
+-- l(j,j) is the root of a(j,j) − l(j,k)·l(j,k), and l(i,j) = (a(i,j) − l(i,k)·l(j,k)) / l(j,j), for rising k below j, every l being an entry of the one factor l
 pub record FactorEntries (n : ℕ) (a l : Triangle) : Type 0 where
-  pub diagonal : (j : ℕ) → j < n → entry l j j ≡ root (pivot a l j)
-  pub below : (i j : ℕ) → j < i → i < n → entry l i j ≡ quotient a l (entry l j j) j i
+  pub diagonal : (j : ℕ) → j < n → entry l j j ≡ root (minusProducts (λ k. entry l j k) (λ k. entry l j k) j (entry a j j))
+  pub below :
+      (i j : ℕ) → j < i → i < n → entry l i j ≡ div binary64 (minusProducts (λ k. entry l i k) (λ k. entry l j k) j (entry a i j)) (entry l j j)
 
 module _ (n : ℕ) (a : Triangle) where
   -- the products of a row's first j entries want the first j columns only
@@ -42,6 +43,7 @@ module _ (n : ℕ) (a : Triangle) where
   quotient-kept d i j k h = ap (λ t. div binary64 t d) (row-products i j j k (entry a i j) h)
 
   pub factor-entries : FactorEntries n a (cholesky (height n) a n)
+  unfolding pivot quotient
   factor-entries =
       record {
         diagonal = λ j h. entry-diagonal n a n j h ∙ ap root (pivot-kept j n (omega arith));

@@ -171,10 +171,16 @@ hasRoot v r = eqb (toBits binary64 (root (ofBits binary64 v))) r
 -- ---- the table
 
 pub rows : List Bool
-unfolding moves factors solves job at hasRoot
+unfolding moves factors solves job at hasRoot gives memory
 rows =
     -- n 0, empty memory: success.
-    moves Packed Blocked 0 1 0 [] []
+    gives (rearrange Packed Blocked 0 1 [] [] .result) success
+    ∷ gives (rearrange Blocked Packed 0 1 [] [] .result) success
+    ∷ gives (factorize Packed 0 1 [] [] .result) success
+    ∷ gives (factorize Blocked 0 1 [] [] .result) success
+    ∷ gives (solve Packed 0 1 0 [] [] [] .result) success
+    ∷ gives (solve Blocked 0 1 0 [] [] [] .result) success
+    ∷ moves Packed Blocked 0 1 0 [] []
     ∷ moves Blocked Packed 0 1 0 [] []
     ∷ factors Packed 0 1 0 [] success []
     ∷ factors Blocked 0 1 0 [] success []
@@ -254,6 +260,38 @@ rows =
     ∷ solves Packed 3 1 1 (one ∷ 0 ∷ twoToMinus54 ∷ one ∷ one ∷ one ∷ []) (one ∷ one ∷ one ∷ []) success (one ∷ one ∷ 0 ∷ [])
     -- The first x is 1 − 2^−54 − 1: +0 with falling k, −2^−54 with rising k.
     ∷ solves Packed 3 1 1 (one ∷ one ∷ twoToMinus54 ∷ one ∷ 0 ∷ one ∷ []) (one ∷ two ∷ one ∷ []) success (0 ∷ one ∷ one ∷ [])
+    -- ---- codes 1 to 9, each where the rules before it pass
+    ∷ gives (rearrangerChecks 4001 201 0 0) (1, 0, 0)
+    ∷ gives (rearrangerChecks 4000 201 0 0) (2, 0, 0)
+    ∷ gives (rearrangerChecks 4000 0 0 0) (2, 0, 0)
+    ∷ gives (rearrangerChecks 4000 200 0 0) (3, 0, 0)
+    ∷ gives (rearrangerChecks 4000 200 8002000 799999) (4, 0, 0)
+    ∷ gives (rearrangerChecks 4000 200 8002000 800000) success
+    ∷ gives (factorChecks Packed 1 0 (memory (infinity ∷ [])) 0) (4, 0, 0)
+    ∷ gives (factorChecks Packed 1 0 (memory (infinity ∷ [])) 1) (7, 0, 0)
+    ∷ gives (solverChecks Packed 1 0 1001 (memory (two ∷ [])) [] 1) (5, 0, 0)
+    ∷ gives (solverChecks Packed 1 0 1000 (memory (two ∷ [])) [] 1) (6, 0, 0)
+    ∷ gives (solverChecks Blocked 3 2 0 (memory (one ∷ one ∷ one ∷ infinity ∷ one ∷ one ∷ [])) [] 3) (7, 3, 0)
+    ∷ gives (solverChecks Blocked 1 2 2 (memory (0 ∷ [])) (memory (one ∷ infinity ∷ [])) 1) (8, 1, 0)
+    ∷ gives (solverChecks Blocked 3 2 0 (memory (one ∷ 0 ∷ one ∷ 0 ∷ 0 ∷ 0 ∷ [])) [] 3) (9, 2, 0)
+    -- The plain calls do not judge b.
+    ∷ factors Packed 1 0 1 (four ∷ []) success (two ∷ [])
+    ∷ solves Packed 1 201 1 (two ∷ []) (four ∷ []) success (one ∷ [])
+    -- ---- memory and order
+    -- Two right-hand sides of two values each.
+    ∷ solves Packed 2 1 2 (two ∷ two ∷ one ∷ []) (four ∷ six ∷ 0 ∷ one ∷ []) success (minusOne ∷ two ∷ minusOne ∷ one ∷ [])
+    -- Values of every kind move: n 5, b 2, where the way back is another permutation.
+    ∷ moves Packed Blocked 5 2 10 (one ∷ two ∷ three ∷ infinity ∷ five ∷ six ∷ 0 ∷ minusZero ∷ nine ∷ ten ∷ minusOne ∷ minusTwo ∷ four ∷ minusInfinity ∷ fifteen ∷ [])
+    (one ∷ two ∷ six ∷ three ∷ 0 ∷ infinity ∷ minusZero ∷ five ∷ nine ∷ ten ∷ minusOne ∷ four ∷ minusTwo ∷ minusInfinity ∷ fifteen ∷ [])
+    ∷ moves Blocked Packed 5 2 10 (one ∷ two ∷ six ∷ three ∷ 0 ∷ infinity ∷ minusZero ∷ five ∷ nine ∷ ten ∷ minusOne ∷ four ∷ minusTwo ∷ minusInfinity ∷ fifteen ∷ [])
+    (one ∷ two ∷ three ∷ infinity ∷ five ∷ six ∷ 0 ∷ minusZero ∷ nine ∷ ten ∷ minusOne ∷ minusTwo ∷ four ∷ minusInfinity ∷ fifteen ∷ [])
+    -- A refused column in the last, narrower block column: the block column before it stays finished.
+    ∷ factors Blocked 3 2 6 (four ∷ two ∷ ten ∷ minusTwo ∷ five ∷ 0 ∷ []) (10, 2, 0xC014_0000_0000_0000) (two ∷ one ∷ three ∷ minusOne ∷ two ∷ 0 ∷ [])
+    -- 10 stands before 11 within a column.
+    ∷ factors Packed 2 1 2 (0 ∷ one ∷ one ∷ []) (10, 0, 0) (0 ∷ one ∷ one ∷ [])
+    -- l(3,2) is 1 − 2^−54 − 1: +0 with rising k, −2^−54 with falling k or the products summed first.
+    ∷ factors Packed 4 1 4 (one ∷ 0 ∷ one ∷ twoToMinus54 ∷ one ∷ one ∷ one ∷ three ∷ one ∷ four ∷ []) success
+    (one ∷ 0 ∷ one ∷ twoToMinus54 ∷ one ∷ one ∷ one ∷ one ∷ 0 ∷ 0x3FFB_B67A_E858_4CAA ∷ [])
     ∷ []
 
 pub examples-hold : T (all (λ r. r) rows)
