@@ -1,0 +1,2 @@
+-- What the steps of the factors promise.
+pub mod PlainSteps
