@@ -77,7 +77,7 @@ module _ (x : Float) (f : T (fits binary64 x)) (g : T (finite x)) (h : T (positi
       let range : rootBits (toBits binary64 x) < 2047 * 2 ^ 52 = root-range (toBits binary64 x) (r .0) (r .1) .1 in
       ap (toBits binary64) (root-is x p)
       ∙ toBits-ofBits binary64 (rootBits (toBits binary64 x)) (omega arith)
-        (subst (λ (b : Bool). T (not b)) (nanBits-is binary64 (rootBits (toBits binary64 x))) (pattern-number (rootBits (toBits binary64 x)) range))
+      (subst (λ (b : Bool). T (not b)) (nanBits-is binary64 (rootBits (toBits binary64 x))) (pattern-number (rootBits (toBits binary64 x)) range))
 
   pub root-midpoints : MidpointRule (toBits binary64 x) (toBits binary64 (root x))
   root-midpoints =

@@ -375,4 +375,5 @@ start-of n b m matrix rhs plainWork blockedWork h1 h2 h3 h4 h5 h6 h7 h8 h9 =
       matrixFinite = h6;
       rhsLength = h7;
       plainWorkLength = h8;
-      blockedWorkLength = h9 }
+      blockedWorkLength = h9;
+    }

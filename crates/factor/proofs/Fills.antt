@@ -24,7 +24,8 @@ module _ (s : List Float) (value : ℕ → Float) (from : ℕ) where
         size = length-set t at x ∙ f .size;
         before = λ i h. getD-set-other t at i x nan (λ g. omega arith) ∙ f .before i h;
         done = λ i h h′. put i h h′ (decLt i at);
-        left = λ i h. getD-set-other t at i x nan (λ g. omega arith) ∙ f .left i (omega arith) }
+        left = λ i h. getD-set-other t at i x nan (λ g. omega arith) ∙ f .left i (omega arith);
+      }
     where
       put : (i : ℕ) → from ≤ i → i < next → Dec (i < at) → getD (set t at x) i nan ≡ value i
       put i h h′ (yes p) = getD-set-other t at i x nan (λ g. omega arith) ∙ f .done i h p

@@ -33,4 +33,5 @@ module _ (n b : ℕ) (m w : List Float) (r : CallResult) where
       (record {
         result = f .result;
         matrix = f .matrix ∙ ap (λ v. store (packedPlace n) (cholesky (height n) (held n m) (cond (accepted v) n (v .place))) m) (f .result);
-        work = refl })
+        work = refl;
+      })

@@ -67,12 +67,12 @@ module _ (n : ℕ) (m : List Float) (size : length m ≡ triangle n) where
   prefix-next j h =
       ap (λ k. stored (packedPlace n) (columns n a (suc j)) k m) (shaped-columns n a (suc j) h .count)
       ∙ ap₂ (storeColumn (packedPlace n) j) (column-of n a (suc j) j (omega arith))
-        (iterate-same (λ k s. storeColumn (packedPlace n) k (getD (columns n a (suc j)) k []) s)
-        (λ k s. storeColumn (packedPlace n) k (getD (columns n a j) k []) s) j m
-        (λ k p s.
-        ap (λ c. storeColumn (packedPlace n) k c s) (column-of n a (suc j) k (omega arith) ∙ sym (column-of n a j k p))))
+      (iterate-same (λ k s. storeColumn (packedPlace n) k (getD (columns n a (suc j)) k []) s)
+      (λ k s. storeColumn (packedPlace n) k (getD (columns n a j) k []) s) j m
+      (λ k p s.
+      ap (λ c. storeColumn (packedPlace n) k c s) (column-of n a (suc j) k (omega arith) ∙ sym (column-of n a j k p))))
       ∙ ap (λ k. storeColumn (packedPlace n) j (factorColumn (height n) a j (columns n a j)) (stored (packedPlace n) (columns n a j) k m))
-        (sym (shaped-columns n a j (omega arith) .count))
+      (sym (shaped-columns n a j (omega arith) .count))
 
   module _ (j : ℕ) (inside : j < n) where
     abbrev t : Triangle
@@ -125,11 +125,12 @@ module _ (n : ℕ) (m : List Float) (size : length m ≡ triangle n) where
       (j : ℕ) (s s′ : List Float) (r : CallResult) → j < n → s ≡ prefix j → Judged n j s r s′ →
       (r ≡ ruleOf n m j) × (s′ ≡ cond (accepted r) (prefix (suc j)) (prefix j))
   prefix-judged j s s′ r inside e g =
-      let g′ : Judged n j (prefix j) r s′ = rw e at g in
-      (g′ .result ∙ prefix-rules j inside,
-      g′ .matrix
-      ∙ ap (λ c. cond (accepted r) (storeColumn (packedPlace n) j c (prefix j)) (prefix j)) (prefix-factor-column j inside)
-      ∙ ap (λ x. cond (accepted r) x (prefix j)) (sym (prefix-next j inside)))
+      let g′ : Judged n j (prefix j) r s′ = rw e at g in (
+        g′ .result ∙ prefix-rules j inside,
+        g′ .matrix
+            ∙ ap (λ c. cond (accepted r) (storeColumn (packedPlace n) j c (prefix j)) (prefix j)) (prefix-factor-column j inside)
+            ∙ ap (λ x. cond (accepted r) x (prefix j)) (sym (prefix-next j inside)),
+      )
 
 -- ---- the verdict on all columns
 
@@ -155,11 +156,12 @@ module _ (judge : ℕ → CallResult) (j : ℕ) (before : lowestRefusal judge j 
   unfolding lowestRefusal
   lowest-here e zero h = absurd (omega arith)
   lowest-here e (suc n) h =
-      elim (decLt j n)
-      [ yes p ↦ rw (lowest-here e n p, e)
-      | no p ↦
-          let g : n ≡ j = omega arith in
-          rw (g, before) ]
+      elim (decLt j n) [
+        | yes p ↦ rw (lowest-here e n p, e)
+        | no p ↦
+            let g : n ≡ j = omega arith in
+            rw (g, before)
+      ]
 
 module _ (n : ℕ) (m : List Float) (j : ℕ) (before : lowestRefusal (ruleOf n m) j ≡ success) where
   pub verdict-next : accepted (ruleOf n m j) ≡ true → lowestRefusal (ruleOf n m) (suc j) ≡ success
@@ -175,7 +177,8 @@ module _ (n : ℕ) (m : List Float) (j : ℕ) (before : lowestRefusal (ruleOf n 
       (λ w.
       record {
         result = sym (lowest-here (ruleOf n m) j before f n inside);
-        matrix = e ∙ rw (f, w .1) refl })
+        matrix = e ∙ rw (f, w .1) refl;
+      })
       (rules-cases (height n) (held n m) (columns n (held n m) j) j)
 
 pub verdict-all :
@@ -190,7 +193,7 @@ module _ (n : ℕ) (m : List Float) (size : length m ≡ triangle n) (j : ℕ) (
   pub columns-refused : accepted r ≡ false → Factored n m r s′
   columns-refused f =
       let turn : (r ≡ ruleOf n m j) × (s′ ≡ cond (accepted r) (prefixOf n m (suc j)) (prefixOf n m j)) =
-          prefix-judged n m size j s s′ r inside written judged
+      prefix-judged n m size j s s′ r inside written judged
       in
       rw (turn .0)
       (verdict-here n m j before s′ inside (turn .1 ∙ ap (λ b. cond b (prefixOf n m (suc j)) (prefixOf n m j)) f) (ap accepted (sym (turn .0)) ∙ f))
@@ -198,7 +201,7 @@ module _ (n : ℕ) (m : List Float) (size : length m ≡ triangle n) (j : ℕ) (
   pub columns-continued : accepted r ≡ true → (s′ ≡ prefixOf n m (j + 1)) × (lowestRefusal (ruleOf n m) (j + 1) ≡ success)
   columns-continued t =
       let turn : (r ≡ ruleOf n m j) × (s′ ≡ cond (accepted r) (prefixOf n m (suc j)) (prefixOf n m j)) =
-          prefix-judged n m size j s s′ r inside written judged
+      prefix-judged n m size j s s′ r inside written judged
       in
       rw add-one
       (turn .1 ∙ ap (λ b. cond b (prefixOf n m (suc j)) (prefixOf n m j)) t, verdict-next n m j before (ap accepted (sym (turn .0)) ∙ t))

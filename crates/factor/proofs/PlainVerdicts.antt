@@ -101,7 +101,8 @@ rows-divided j d w v inside f =
     record {
       diagonal = getD-set-same v j d nan (omega (arith, f .size));
       rows = λ i low h. getD-set-other v j i d nan (λ g. omega arith) ∙ f .done i (omega arith) h;
-      finites = ap (all finite) (part-to-end (set v j d) (j + 1)) }
+      finites = ap (all finite) (part-to-end (set v j d) (j + 1));
+    }
 
 module _ (n j : ℕ) (m w : List Float) (s : Column n j m) (size : length w ≡ n) (rows : Reduced n m j j j n w) where
   column-pivot : {p : Pivot} → judged (getD w j nan) ≡ p → judged (pivot (held n m) (held n m) j) ≡ p
@@ -127,4 +128,5 @@ module _ (n j : ℕ) (m w : List Float) (s : Column n j m) (size : length w ≡ 
           result = sym (column-success (height n) (held n m) (held n m) j d (column-pivot e) (finite-below f));
           matrix =
               stored
-              ∙ ap (λ c. storeColumn (packedPlace n) j c m) (column-held n j m w w′ d finiteRows size size′ (s .column) rows divided root-is) }
+              ∙ ap (λ c. storeColumn (packedPlace n) j c m) (column-held n j m w w′ d finiteRows size size′ (s .column) rows divided root-is);
+        }

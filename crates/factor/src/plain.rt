@@ -9,9 +9,9 @@ ghost use Rattle.shape.specs.Places.{triangle, packedPlace};
 ghost use Rattle.calls.specs.Triangles.{storeColumn};
 ghost use Rattle.calls.specs.Calls.{DoneAs, factorize};
 ghost use Rattle.factor.specs.PlainSteps.{Column, Filled, Divided, Judged, Factored, Group, PartlyReduced, reduced, Reduced, ReducedTile, lessProduct, Tile};
-
 use binary64::Pivot;
-use calls::{CallResult, Layout};
+use calls::CallResult;
+use calls::Layout;
 use shape::Shape;
 
 // The place of entry (i, k), less i. The product is even, so the division is exact.
@@ -37,7 +37,16 @@ fn subtract_products(tile: [f64; 16], x: f64, matrix: &[f64], at: usize) -> [f64
 }
 
 // The rows of a tile from row i on, reduced by the columns from k to `end` − 1.
-fn reduce_tile(tile: [f64; 16], matrix: &[f64], n: usize, j: usize, k: usize, end: usize, base: usize, i: usize) -> [f64; 16]
+fn reduce_tile(
+    tile: [f64; 16],
+    matrix: &[f64],
+    n: usize,
+    j: usize,
+    k: usize,
+    end: usize,
+    base: usize,
+    i: usize,
+) -> [f64; 16]
     requires { ⌜ Column n j (now matrix) ⌝ }
     requires { ⌜ Group n j k end base ⌝ }
     requires { ⌜ i + 16 ≤ n ⌝ }
@@ -57,7 +66,16 @@ fn reduce_tile(tile: [f64; 16], matrix: &[f64], n: usize, j: usize, k: usize, en
 }
 
 // Row i reduced by the columns from k to `end` − 1.
-fn reduce_row(row: f64, matrix: &[f64], n: usize, j: usize, k: usize, end: usize, base: usize, i: usize) -> f64
+fn reduce_row(
+    row: f64,
+    matrix: &[f64],
+    n: usize,
+    j: usize,
+    k: usize,
+    end: usize,
+    base: usize,
+    i: usize,
+) -> f64
     requires { ⌜ Column n j (now matrix) ⌝ }
     requires { ⌜ Group n j k end base ⌝ }
     requires { ⌜ i < n ⌝ }
@@ -100,7 +118,16 @@ fn store_tile(work: &mut [f64], i: usize, tile: [f64; 16])
 }
 
 // The 16 rows from row i on, reduced by the columns from k to `end` − 1. Rows above the column do not count.
-fn reduce_part(work: &mut [f64], matrix: &[f64], n: usize, j: usize, k: usize, end: usize, base: usize, i: usize)
+fn reduce_part(
+    work: &mut [f64],
+    matrix: &[f64],
+    n: usize,
+    j: usize,
+    k: usize,
+    end: usize,
+    base: usize,
+    i: usize,
+)
     requires { ⌜ Column n j (now matrix) ⌝ }
     requires { ⌜ (length (now work) ≡ n) × (i + 16 ≤ n) ⌝ }
     requires { ⌜ Group n j k end base ⌝ }
@@ -113,7 +140,16 @@ fn reduce_part(work: &mut [f64], matrix: &[f64], n: usize, j: usize, k: usize, e
 }
 
 // The rows from `first` on, in tiles, the last of which ends with row n − 1.
-fn reduce_tiles(work: &mut [f64], matrix: &[f64], n: usize, j: usize, k: usize, end: usize, base: usize, first: usize)
+fn reduce_tiles(
+    work: &mut [f64],
+    matrix: &[f64],
+    n: usize,
+    j: usize,
+    k: usize,
+    end: usize,
+    base: usize,
+    first: usize,
+)
     requires { ⌜ Column n j (now matrix) ⌝ }
     requires { ⌜ (length (now work) ≡ n) × (first ≤ n) × ((n - first) % 16 ≡ 0) ⌝ }
     requires { ⌜ Group n j k end base ⌝ }
@@ -128,7 +164,16 @@ fn reduce_tiles(work: &mut [f64], matrix: &[f64], n: usize, j: usize, k: usize, 
 }
 
 // The rows before `to`, one by one.
-fn reduce_rows(work: &mut [f64], matrix: &[f64], n: usize, j: usize, k: usize, end: usize, base: usize, to: usize)
+fn reduce_rows(
+    work: &mut [f64],
+    matrix: &[f64],
+    n: usize,
+    j: usize,
+    k: usize,
+    end: usize,
+    base: usize,
+    to: usize,
+)
     requires { ⌜ Column n j (now matrix) ⌝ }
     requires { ⌜ (length (now work) ≡ n) × (j ≤ to) × (to ≤ n) ⌝ }
     requires { ⌜ Group n j k end base ⌝ }
@@ -143,7 +188,15 @@ fn reduce_rows(work: &mut [f64], matrix: &[f64], n: usize, j: usize, k: usize, e
 }
 
 // All rows, reduced by the columns from k to `end` − 1.
-fn reduce_group(work: &mut [f64], matrix: &[f64], n: usize, j: usize, k: usize, end: usize, base: usize)
+fn reduce_group(
+    work: &mut [f64],
+    matrix: &[f64],
+    n: usize,
+    j: usize,
+    k: usize,
+    end: usize,
+    base: usize,
+)
     requires { ⌜ Column n j (now matrix) ⌝ }
     requires { ⌜ length (now work) ≡ n ⌝ }
     requires { ⌜ Group n j k end base ⌝ }

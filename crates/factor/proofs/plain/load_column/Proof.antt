@@ -49,9 +49,9 @@ same-length c = c .before .loop .inv .2 .size
 returns : tie.Need-returns Inv-loop μ-loop
 returns c =
     λ i low h.
-        c .before .loop .inv .2 .done i low (omega arith)
-        ∙ ap (λ b. getD (c .before .before .args .matrix .now) (b + i) nan) (c .before .before .pre .1 .1)
-        ∙ sym (reduced-none (c .before .before .args .n) (c .before .before .args .matrix .now) (c .before .before .args .j) i)
+    c .before .loop .inv .2 .done i low (omega arith)
+    ∙ ap (λ b. getD (c .before .before .args .matrix .now) (b + i) nan) (c .before .before .pre .1 .1)
+    ∙ sym (reduced-none (c .before .before .args .n) (c .before .before .args .matrix .now) (c .before .before .args .j) i)
 
 pub load-column-spec : {M : Type 1} → statement M
 load-column-spec =

@@ -52,9 +52,11 @@ loop-less c = omega arith
 
 loop-again : tie.Need-loop-again Inv-loop μ-loop
 loop-again c =
-    let e : c .before .before .before .loop .start ≡ packedPlace (c .before .before .before .before .args .n) 0 (c .before .before .before .loop .c) = c .before .before .before .loop .inv .1 in
-    (omega arith, omega (arith, row-place-next (c .before .before .before .before .args .n) (c .before .before .before .loop .c) (omega arith)),
-    rw e (reduced-next (c .before .before .before .before .args .n) (c .before .before .before .before .args .matrix .now) (c .before .before .before .before .args .j) (c .before .before .before .loop .c) (c .before .before .before .before .args .i) (c .before .before .before .loop .rest) (c .before .before .before .loop .inv .2)))
+    let e : c .before .before .before .loop .start ≡ packedPlace (c .before .before .before .before .args .n) 0 (c .before .before .before .loop .c) = c .before .before .before .loop .inv .1 in (
+      omega arith,
+      omega (arith, row-place-next (c .before .before .before .before .args .n) (c .before .before .before .loop .c) (omega arith)),
+      rw e (reduced-next (c .before .before .before .before .args .n) (c .before .before .before .before .args .matrix .now) (c .before .before .before .before .args .j) (c .before .before .before .loop .c) (c .before .before .before .before .args .i) (c .before .before .before .loop .rest) (c .before .before .before .loop .inv .2)),
+    )
 
 returns : tie.Need-returns Inv-loop μ-loop
 returns c =

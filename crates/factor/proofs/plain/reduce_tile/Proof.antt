@@ -54,8 +54,8 @@ loop-again c = (omega arith, omega (arith, row-place-next (c .before .before .be
 returns : tie.Need-returns Inv-loop μ-loop
 returns c =
     λ r h low.
-        let e : c .before .loop .c ≡ c .before .before .before .args .end = omega arith in
-        c .before .loop .inv .2 r h low ∙ ap (λ k. reduced (c .before .before .before .args .n) (c .before .before .before .args .matrix .now) (c .before .before .before .args .j) k (c .before .before .before .args .i + r)) e
+    let e : c .before .loop .c ≡ c .before .before .before .args .end = omega arith in
+    c .before .loop .inv .2 r h low ∙ ap (λ k. reduced (c .before .before .before .args .n) (c .before .before .before .args .matrix .now) (c .before .before .before .args .j) k (c .before .before .before .args .i + r)) e
 
 pub reduce-tile-spec : {M : Type 1} → statement M
 reduce-tile-spec =

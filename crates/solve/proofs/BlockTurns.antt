@@ -1,0 +1,65 @@
+-- A block column's turn in each substitution on blocked memory. Assumes nothing.
+use Prim.Native.Nat.{ℕ, zero, suc, _+_, _-_, _*_, _/_, _≤_, _<_}
+use native.Mathlib.Omega.{arith}
+use mathlib.Core.Path.{_≡_, sym, ap, _∙_}
+use mathlib.Core.Logic.{_⊎_, inl, inr}
+use mathlib.Core.List.{List}
+use lib.ListN.{length, take, drop}
+use lib.Ieee.{Float}
+use Rattle.shape.specs.Places.{triangle, blockOf, blockStart, width, placeInBlock, blockedPlace}
+use Rattle.shape.proofs.Bounds.{block-start-le}
+use Rattle.shape.proofs.Columns.{block-start-split}
+use Rattle.shape.proofs.Blocks.{block-of-le, block-of-lt, block-of-multiple, block-of-next}
+use Rattle.calls.specs.Triangles.{height, load}
+use Rattle.solve.specs.Substitution.{entriesAt, ForwardDone, BackwardDone}
+use Rattle.solve.proofs.Factors.{block-agrees}
+use Rattle.solve.proofs.Substitution.{ForwardTo, BackwardTo, lent, returned, forward-lent, backward-lent}
+
+-- a block column's values end inside the triangle
+pub block-room : (n c w : ℕ) → c + w ≤ n → blockStart n c + blockStart (n - c) w ≤ triangle n
+block-room n c w fits = omega (arith, block-start-split n c w fits, block-start-le n (c + w) fits)
+
+-- a block column that ends before the last is whole
+width-inside : (n b c : ℕ) → c + width n b c < n → width n b c ≡ b
+unfolding width
+width-inside n b c inside = omega arith
+
+-- the next block column's first column, where there is one
+pub first-next : (n b c : ℕ) → 0 < b → blockOf b c ≡ c → c + width n b c < n → blockOf b (c + width n b c) ≡ c + width n b c
+first-next n b c pos first inside = rw (width-inside n b c inside) (block-of-next b c pos first)
+
+module _ (n b c at w : ℕ) (matrix y work v′ : List Float) (pos : 0 < b) (size : length matrix ≡ triangle n) (first : blockOf b c ≡ c)
+    (place : at ≡ blockStart n c) (wide : w ≡ width n b c) (fits : c + w ≤ n) where
+  pub block-forward :
+      ForwardTo n (load (blockedPlace n b) (height n) n matrix) y c work →
+      ForwardDone (entriesAt (placeInBlock w) (take (length matrix - at) (drop at matrix))) (n - c) w (lent c work) v′ →
+      ForwardTo n (load (blockedPlace n b) (height n) n matrix) y (c + w) (returned c work v′)
+  block-forward state done =
+      forward-lent n c w (load (blockedPlace n b) (height n) n matrix) y work v′ (entriesAt (placeInBlock w) (take (length matrix - at) (drop at matrix))) fits
+      (rw (wide, place) (block-agrees n c matrix b (length matrix - blockStart n c) first (omega (arith, block-room n c w fits, ap (blockStart (n - c)) wide)))) state done
+
+  pub block-backward :
+      BackwardTo n (load (blockedPlace n b) (height n) n matrix) y (c + w) work →
+      BackwardDone (entriesAt (placeInBlock w) (take (length matrix - at) (drop at matrix))) (n - c) w (lent c work) v′ →
+      BackwardTo n (load (blockedPlace n b) (height n) n matrix) y c (returned c work v′)
+  block-backward state done =
+      backward-lent n c w (load (blockedPlace n b) (height n) n matrix) y work v′ (entriesAt (placeInBlock w) (take (length matrix - at) (drop at matrix))) fits
+      (rw (wide, place) (block-agrees n c matrix b (length matrix - blockStart n c) first (omega (arith, block-room n c w fits, ap (blockStart (n - c)) wide)))) state done
+
+-- a first column after the first is b after another
+first-before : (b k : ℕ) → 0 < b → blockOf b (b * suc k - 1) ≡ b * k
+first-before b k pos =
+    let at : b * suc k - 1 ≡ b * k + (b - 1) = omega arith in
+    rw at (block-of-multiple b k (b - 1) (omega arith))
+
+-- the block column that ends at c, which is the end of the triangle or the first column of a block column
+pub last-block : (n b c : ℕ) → 0 < b → 0 < c → c ≤ n → (c ≡ n) ⊎ (blockOf b c ≡ c) → blockOf b (c - 1) + width n b (blockOf b (c - 1)) ≡ c
+unfolding width blockOf
+last-block n b c pos low le (inl e) = omega (arith, block-of-le b (c - 1), block-of-lt b (c - 1) pos)
+last-block n b c pos low le (inr e) = go (c / b) e
+  where
+    go : (k : ℕ) → b * k ≡ c → blockOf b (c - 1) + width n b (blockOf b (c - 1)) ≡ c
+    go zero g = absurd (omega arith)
+    go (suc k) g =
+        let before : blockOf b (c - 1) ≡ b * k = ap (λ q. blockOf b (q - 1)) (sym g) ∙ first-before b k pos in
+        rw before (omega arith)

@@ -1,0 +1,46 @@
+-- The outcome of a solver against its definition: refused by a check, or solved as far as its right-hand sides pass. Assumes nothing.
+use Prim.Native.Nat.{ℕ, _*_, _≤_}
+use mathlib.Core.Path.{_≡_, refl, sym, ap, _∙_}
+use mathlib.Core.Bool.{true, false, cond}
+use mathlib.Core.List.{List, _++_}
+use lib.ListN.{length, take, drop, replicate}
+use lib.Seq.{length-take-le}
+use lib.Ieee.{Float}
+use Rattle.binary64.specs.Kinds.{zero64}
+use Rattle.calls.specs.declared.CallResult.{CallResult}
+use Rattle.calls.specs.declared.Layout.{Layout}
+use Rattle.calls.specs.Refusals.{accepted}
+use Rattle.calls.specs.Calls.{SolvedAs, clear, solverChecks, solutions, solved, solve}
+use Rattle.calls.proofs.CheckLaws.{SolverAccepted, solver-accepted}
+use Rattle.solve.specs.Solving.{Checked, factorOf, AllSolved}
+
+module _ (layout : Layout) (n b m : ℕ) (a rhs w : List Float) (checks : CallResult) (e : checks ≡ solverChecks layout n b m a rhs (length w)) where
+  pub checks-refused : accepted checks ≡ false → SolvedAs (solve layout n b m a rhs w) checks rhs w
+  unfolding solve
+  checks-refused f = rw (ap accepted (sym e) ∙ f) (record { result = e; rhs = refl; work = refl })
+
+  module _ (t : accepted checks ≡ true) where
+    pub checks-accepted : SolverAccepted layout n b m a rhs (length w)
+    checks-accepted = solver-accepted layout n b m a rhs (length w) (rw (ap accepted (sym e) ∙ t) tt)
+
+    pub work-fits : n ≤ length w
+    work-fits = checks-accepted .sizes .work
+
+    pub part-length : length (take n w) ≡ n
+    part-length = length-take-le n w work-fits
+
+    pub checked : Checked layout n b a (take n w)
+    checked = record { order = checks-accepted .sizes .order; block = checks-accepted .sizes .blockLow; matrixLength = checks-accepted .sizes .matrix; workLength = part-length }
+
+    pub rhs-length : length rhs ≡ n * m
+    rhs-length = checks-accepted .rhsLength
+
+    pub all-done : (r : CallResult) (rhs′ : List Float) → AllSolved n m (factorOf layout n b a) rhs r rhs′ → SolvedAs (solve layout n b m a rhs w) r rhs′ (replicate n zero64 ++ drop n w)
+    unfolding solve solved clear
+    all-done r rhs′ f =
+        rw (ap accepted (sym e) ∙ t)
+        (record {
+          result = f .result;
+          rhs = f .kept ∙ ap (λ v. solutions n (factorOf layout n b a) (cond (accepted v) m (v .place)) rhs) (f .result);
+          work = refl;
+        })

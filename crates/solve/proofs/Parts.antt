@@ -1,0 +1,82 @@
+-- A part of a list that was lent and has come back, and one that a loop stores: what stands in the whole. Over any element type. Assumes nothing.
+use Prim.Native.Nat.{ℕ, _+_, _-_, _≤_, _<_}
+use native.Mathlib.Omega.{arith}
+use native.Mathlib.Decide.{decLt}
+use mathlib.Core.Path.{_≡_, refl, ap, _∙_}
+use mathlib.Core.List.{List, _++_}
+use lib.ListN.{length, getD, set, take, drop, length-append, length-set, length-take, length-drop, List·getD-append}
+use lib.Seq.{getD-take, getD-drop, getD-append-add, getD-set-same, getD-set-other}
+use Rattle.solve.specs.Kernels.{Replaced}
+
+module _ {A : Type 0} (d : A) where
+  -- an element of the part is one of the whole
+  pub getD-part : (a k : ℕ) (xs : List A) (r : ℕ) → r < k → getD (take k (drop a xs)) r d ≡ getD xs (a + r) d
+  getD-part a k xs r h = getD-take k (drop a xs) r d h ∙ getD-drop a xs r d
+
+  pub length-part : (a k : ℕ) (xs : List A) → a + k ≤ length xs → length (take k (drop a xs)) ≡ k
+  length-part a k xs h = omega (arith, length-take k (drop a xs), length-drop a xs)
+
+  getD-second : (xs ys : List A) (i a : ℕ) → length xs ≡ a → a ≤ i → getD (xs ++ ys) i d ≡ getD ys (i - a) d
+  getD-second xs ys i a e h =
+      let at : i ≡ length xs + (i - a) = omega arith in
+      ap (λ q. getD (xs ++ ys) q d) at ∙ getD-append-add xs ys (i - a) d
+
+  -- `&mut xs[a..a + k]`
+  module _ (a k : ℕ) (xs ys : List A) (fits : a + k ≤ length xs) (same : length ys ≡ k) where
+    pub part-replaced : Replaced d a k xs ys (take a xs ++ (ys ++ drop k (drop a xs)))
+    part-replaced =
+        record {
+          size =
+              omega (arith, length-append (take a xs) tail, length-append ys (drop k (drop a xs)), head, length-drop k (drop a xs), length-drop a xs);
+          before = λ i h. List·getD-append (take a xs) tail d i (omega (arith, head)) ∙ getD-take a xs i d h;
+          inside = λ r h.
+              let at : a + r - a ≡ r = omega arith in
+              getD-second (take a xs) tail (a + r) a head (omega arith) ∙ ap (λ q. getD tail q d) at
+              ∙ List·getD-append ys (drop k (drop a xs)) d r (omega arith);
+          after = λ i h.
+              let at : a + (k + (i - a - k)) ≡ i = omega arith in
+              getD-second (take a xs) tail i a head (omega arith) ∙ getD-second ys (drop k (drop a xs)) (i - a) k same (omega arith)
+              ∙ getD-drop k (drop a xs) (i - a - k) d ∙ getD-drop a xs (k + (i - a - k)) d ∙ ap (λ q. getD xs q d) at;
+        }
+      where
+        tail : List A
+        tail = ys ++ drop k (drop a xs)
+
+        head : length (take a xs) ≡ a
+        head = omega (arith, length-take a xs)
+
+  -- `&mut xs[..k]`
+  module _ (k : ℕ) (xs ys : List A) (fits : k ≤ length xs) (same : length ys ≡ k) where
+    pub prefix-replaced : Replaced d 0 k xs ys (ys ++ drop k xs)
+    prefix-replaced =
+        record {
+          size = omega (arith, length-append ys (drop k xs), length-drop k xs);
+          before = λ i h. absurd (omega arith);
+          inside = λ r h.
+              let at : 0 + r ≡ r = omega arith in
+              ap (λ q. getD (ys ++ drop k xs) q d) at ∙ List·getD-append ys (drop k xs) d r (omega arith);
+          after = λ i h.
+              let at : k + (i - k) ≡ i = omega arith in
+              getD-second ys (drop k xs) i k same (omega arith) ∙ getD-drop k xs (i - k) d ∙ ap (λ q. getD xs q d) at;
+        }
+
+  -- a loop that stores ys from a on
+  module _ (a : ℕ) (xs ys : List A) where
+    pub replaced-none : Replaced d a 0 xs ys xs
+    replaced-none = record { size = refl; before = λ i h. refl; inside = λ r h. absurd (omega arith); after = λ i h. refl }
+
+    pub replaced-next :
+        (k : ℕ) (zs : List A) → a + k < length xs → Replaced d a k xs ys zs → Replaced d a (k + 1) xs ys (set zs (a + k) (getD ys k d))
+    replaced-next k zs room so =
+        record {
+          size = length-set zs (a + k) (getD ys k d) ∙ so .size;
+          before = λ i h. getD-set-other zs (a + k) i (getD ys k d) d (λ g. omega arith) ∙ so .before i h;
+          inside = λ r h.
+              elim (decLt r k) [
+                | yes before ↦ getD-set-other zs (a + k) (a + r) (getD ys k d) d (λ g. omega arith) ∙ so .inside r before
+                | no after ↦
+                    let here : r ≡ k = omega arith in
+                    rw here (getD-set-same zs (a + k) (getD ys k d) d (omega (arith, so .size)))
+              ];
+          after = λ i h. getD-set-other zs (a + k) i (getD ys k d) d (λ g. omega arith) ∙ so .after i (omega arith);
+        }

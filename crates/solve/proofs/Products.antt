@@ -1,0 +1,82 @@
+-- Products subtracted one by one: one more, and a run of them that follows another. Assumes nothing.
+use Prim.Native.Nat.{ℕ, zero, suc, _+_, _-_, _≤_, _<_}
+use native.Mathlib.Nat.{add-zero, add-suc}
+use native.Mathlib.Numerals.{add-one}
+use native.Mathlib.Omega.{arith}
+use mathlib.Core.Path.{_≡_, refl, sym, ap, ap₂, _∙_}
+use mathlib.Core.List.{List}
+use lib.ListN.{length, getD, take, drop, length-take}
+use lib.Seq.{getD-take}
+use lib.Ieee.{Float, nan, binary64, sub, mul}
+use Rattle.calls.specs.Arithmetic.{minusProducts}
+use Rattle.calls.proofs.Columns.{products-same}
+use Rattle.solve.specs.Kernels.{risingFrom, fallingFrom}
+use Rattle.solve.proofs.Parts.{getD-part, length-part}
+
+pub minus-none : (x y : ℕ → Float) (t : Float) → minusProducts x y 0 t ≡ t
+unfolding minusProducts
+minus-none x y t = refl
+
+pub minus-next : (x y : ℕ → Float) (k : ℕ) (t : Float) → minusProducts x y (k + 1) t ≡ sub binary64 (minusProducts x y k t) (mul binary64 (x k) (y k))
+unfolding minusProducts
+minus-next x y k t = rw add-one
+
+-- the products from k on follow the first k
+pub minus-add :
+    (x y : ℕ → Float) (k c : ℕ) (t : Float) →
+    minusProducts x y (k + c) t ≡ minusProducts (λ q. x (k + q)) (λ q. y (k + q)) c (minusProducts x y k t)
+unfolding minusProducts
+minus-add x y k zero t = rw add-zero
+minus-add x y k (suc c) t = rw add-suc (ap (λ u. sub binary64 u (mul binary64 (x (k + c)) (y (k + c)))) (minus-add x y k c t))
+
+-- ---- a turn of a loop over k, rising and falling
+
+pub rising-next :
+    (x y : List Float) (at k : ℕ) (t value : Float) → value ≡ risingFrom x at y k t →
+    sub binary64 value (mul binary64 (getD x (at + k) nan) (getD y k nan)) ≡ risingFrom x at y (k + 1) t
+rising-next x y at k t value e =
+    ap (λ u. sub binary64 u (mul binary64 (getD x (at + k) nan) (getD y k nan))) e
+    ∙ sym (minus-next (λ q. getD x (at + q) nan) (λ q. getD y q nan) k t)
+
+pub falling-next :
+    (x y : List Float) (at k : ℕ) (t value : Float) → 0 < k → k ≤ length y → value ≡ fallingFrom x at y (length y - k) t →
+    sub binary64 value (mul binary64 (getD x (at + (k - 1)) nan) (getD y (k - 1) nan)) ≡ fallingFrom x at y (length y - (k - 1)) t
+falling-next x y at k t value pos le e =
+    let c : ℕ = length y - k in
+    let here : k - 1 ≡ length y - 1 - c = omega arith in
+    let next : length y - (k - 1) ≡ c + 1 = omega arith in
+    ap₂ (λ u q. sub binary64 u (mul binary64 (getD x (at + q) nan) (getD y q nan))) e here
+    ∙ sym (minus-next (λ q. getD x (at + (length y - 1 - q)) nan) (λ q. getD y (length y - 1 - q) nan) c t)
+    ∙ ap (λ m. fallingFrom x at y m t) (sym next)
+
+-- ---- products with a part of a list
+
+-- with the first m values of v
+pub rising-prefix :
+    (row : ℕ → Float) (x v : List Float) (at m : ℕ) (t : Float) → m ≤ length v → ((k : ℕ) → k < m → getD x (at + k) nan ≡ row k) →
+    risingFrom x at (take m v) (length (take m v)) t ≡ minusProducts row (λ k. getD v k nan) m t
+rising-prefix row x v at m t fits same =
+    let size : length (take m v) ≡ m = omega (arith, length-take m v) in
+    ap (λ c. risingFrom x at (take m v) c t) size
+    ∙ products-same (λ k. getD x (at + k) nan) row (λ k. getD (take m v) k nan) (λ k. getD v k nan) m t same (λ k h. getD-take m v k nan h)
+
+up-part : (a m e k : ℕ) → a + m ≡ e → k < m → a + (m - 1 - k) ≡ e - 1 - k
+up-part a m e k end h = omega arith
+
+up-lt : (m k : ℕ) → k < m → m - 1 - k < m
+up-lt m k h = omega arith
+
+-- with the values of v from a on and before e, from the last up
+pub falling-part :
+    (column : ℕ → Float) (x v : List Float) (at a m e : ℕ) (t : Float) → a + m ≡ e → e ≤ length v →
+    ((i : ℕ) → i < m → getD x (at + i) nan ≡ column (a + i)) →
+    fallingFrom x at (take m (drop a v)) (length (take m (drop a v))) t ≡ minusProducts (λ k. column (e - 1 - k)) (λ k. getD v (e - 1 - k) nan) m t
+falling-part column x v at a m e t end fits same =
+    let y : List Float = take m (drop a v) in
+    ap₂ (λ q c. minusProducts (λ k. getD x (at + (q - 1 - k)) nan) (λ k. getD y (q - 1 - k) nan) c t) size size
+    ∙ products-same (λ k. getD x (at + (m - 1 - k)) nan) (λ k. column (e - 1 - k)) (λ k. getD y (m - 1 - k) nan) (λ k. getD v (e - 1 - k) nan) m t
+    (λ k h. same (m - 1 - k) (up-lt m k h) ∙ ap column (up-part a m e k end h))
+    (λ k h. getD-part nan a m v (m - 1 - k) (up-lt m k h) ∙ ap (λ q. getD v q nan) (up-part a m e k end h))
+  where
+    size : length (take m (drop a v)) ≡ m
+    size = length-part nan a m v (omega arith)

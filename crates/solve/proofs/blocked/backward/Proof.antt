@@ -1,0 +1,132 @@
+use Prim.Native.Nat.{_+_, _-_, _≤_, _<_}
+use native.Mathlib.Omega.{arith}
+use mathlib.Core.Path.{_≡_, refl, sym, ap, _∙_}
+use mathlib.Core.Logic.{_⊎_, inl, inr}
+use denote.Ref.{now}
+use lib.ListN.{length-take, length-drop}
+use Rattle.shape.specs.Places.{blockedPlace, blockOf, blockStart, width}
+use Rattle.shape.proofs.Bounds.{block-start-le, triangle-le}
+use Rattle.shape.proofs.Blocks.{block-of-le, block-of-block, width-pos, width-le}
+use Rattle.calls.specs.Triangles.{height, load}
+use Rattle.solve.proofs.Substitution.{BackwardTo, backward-start, backward-end}
+use Rattle.solve.proofs.BlockTurns.{block-room, last-block, block-backward}
+use Rattle.solve.proofs.blocked.backward.Statement.{statement}
+use Rattle.solve.proofs.blocked.backward.Tie as tie
+
+abbrev Inv-loop : tie.InvT-loop
+Inv-loop shape matrix work₀ n c₀ work c =
+    (c ≤ shape .order) × (n ≡ shape .order) × ((c ≡ shape .order) ⊎ (blockOf (shape .block) c ≡ c))
+    × BackwardTo (shape .order) (load (blockedPlace (shape .order) (shape .block)) (height (shape .order)) (shape .order) matrix) work₀ c work
+
+abbrev μ-loop : tie.MeasureT-loop
+μ-loop shape matrix work₀ n c₀ work c = c
+
+loop-holds : tie.Need-loop-holds Inv-loop μ-loop
+loop-holds c = (omega arith, refl, inl refl, backward-start (c .before .before .args .shape .order) _ (now (c .before .before .args .work)) (c .before .before .pre .1 .1 .1))
+
+sub-block-of : tie.Need-sub-block-of Inv-loop μ-loop
+sub-block-of c = omega arith
+
+block-of-requires : tie.Need-block-of-requires Inv-loop μ-loop
+block-of-requires c κs = omega arith
+
+block-start-requires : tie.Need-block-start-requires Inv-loop μ-loop
+block-start-requires c κs = (omega arith, omega (arith, c .block-of .ensures, block-of-le (c .before .before .before .before .before .args .shape .block) (c .before .before .loop .c - 1)))
+
+block-width-requires : tie.Need-block-width-requires Inv-loop μ-loop
+block-width-requires c κs = omega (arith, c .before .block-of .ensures, block-of-le (c .before .before .before .before .before .before .args .shape .block) (c .before .before .before .loop .c - 1))
+
+sub-backward-block : tie.Need-sub-backward-block Inv-loop μ-loop
+sub-backward-block c = omega (arith, c .before .before .block-of .ensures, block-of-le (c .before .before .before .before .before .before .before .args .shape .block) (c .before .before .before .before .loop .c - 1))
+
+mul-backward-block : tie.Need-mul-backward-block Inv-loop μ-loop
+mul-backward-block c = omega (arith, c .before .block-start .ensures, block-start-le (c .before .before .before .before .before .before .before .args .shape .order) (c .before .before .block-of .result) (omega (arith, c .before .before .block-of .ensures, block-of-le (c .before .before .before .before .before .before .before .args .shape .block) (c .before .before .before .before .loop .c - 1))), triangle-le (c .before .before .before .before .before .before .before .args .shape .order) (omega arith))
+
+sub-backward-block-2 : tie.Need-sub-backward-block-2 Inv-loop μ-loop
+sub-backward-block-2 c = omega (arith, c .before .block-start .ensures, block-start-le (c .before .before .before .before .before .before .before .args .shape .order) (c .before .before .block-of .result) (omega (arith, c .before .before .block-of .ensures, block-of-le (c .before .before .before .before .before .before .before .args .shape .block) (c .before .before .before .before .loop .c - 1))))
+
+part-backward-block-start : tie.Need-part-backward-block-start Inv-loop μ-loop
+part-backward-block-start c = omega (arith, c .before .block-start .ensures, block-start-le (c .before .before .before .before .before .before .before .args .shape .order) (c .before .before .block-of .result) (omega (arith, c .before .before .block-of .ensures, block-of-le (c .before .before .before .before .before .before .before .args .shape .block) (c .before .before .before .before .loop .c - 1))))
+
+part-backward-block-end : tie.Need-part-backward-block-end Inv-loop μ-loop
+part-backward-block-end c = omega arith
+
+mul-backward-block-2 : tie.Need-mul-backward-block-2 Inv-loop μ-loop
+mul-backward-block-2 c = omega (arith, c .before .before .before .block-of .ensures, block-of-le (c .before .before .before .before .before .before .before .before .args .shape .block) (c .before .before .before .before .before .loop .c - 1))
+
+sub-backward-block-3 : tie.Need-sub-backward-block-3 Inv-loop μ-loop
+sub-backward-block-3 c = omega (arith, c .before .before .before .block-of .ensures, block-of-le (c .before .before .before .before .before .before .before .before .args .shape .block) (c .before .before .before .before .before .loop .c - 1), c .before .before .before .before .before .loop .inv .3 .size)
+
+part-backward-block-start-2 : tie.Need-part-backward-block-start-2 Inv-loop μ-loop
+part-backward-block-start-2 c = omega (arith, c .before .before .before .block-of .ensures, block-of-le (c .before .before .before .before .before .before .before .before .args .shape .block) (c .before .before .before .before .before .loop .c - 1), c .before .before .before .before .before .loop .inv .3 .size)
+
+part-backward-block-end-2 : tie.Need-part-backward-block-end-2 Inv-loop μ-loop
+part-backward-block-end-2 c = omega arith
+
+backward-block-requires : tie.Need-backward-block-requires Inv-loop μ-loop
+backward-block-requires c κs =
+    let n = c .before .before .before .before .before .before .before .before .before .args .shape .order in
+    let b = c .before .before .before .before .before .before .before .before .before .args .shape .block in
+    let f = c .before .before .before .before .block-of .result in
+    let low : f < c .before .before .before .before .before .before .loop .c = omega (arith, c .before .before .before .before .block-of .ensures, block-of-le b (c .before .before .before .before .before .before .loop .c - 1)) in
+    let room = block-room n f (width n b f) (omega (arith, width-le n b f)) in
+    record {
+      order = omega arith;
+      columns = omega (arith, c .before .before .block-width .ensures, width-pos n b f (omega arith) (omega arith));
+      fits = omega (arith, c .before .before .block-width .ensures, width-le n b f);
+      values = simp (length-take, length-drop) (omega (arith, c .before .before .before .block-start .ensures, room, ap (blockStart (n - f)) (c .before .before .block-width .ensures)));
+      rows = simp (length-take, length-drop) (omega (arith, c .before .before .before .before .before .before .loop .inv .3 .size));
+    }
+
+loop-less : tie.Need-loop-less Inv-loop μ-loop
+loop-less c = omega (arith, c .before .before .before .before .before .before .before .block-of .ensures, block-of-le (c .before .before .before .before .before .before .before .before .before .before .before .before .args .shape .block) (c .before .before .before .before .before .before .before .before .before .loop .c - 1))
+
+loop-again : tie.Need-loop-again Inv-loop μ-loop
+loop-again c =
+    let n = c .before .before .before .before .before .before .before .before .before .before .before .before .args .shape .order in
+    let b = c .before .before .before .before .before .before .before .before .before .before .before .before .args .shape .block in
+    let f = c .before .before .before .before .before .before .before .block-of .result in
+    let low : f < c .before .before .before .before .before .before .before .before .before .loop .c = omega (arith, c .before .before .before .before .before .before .before .block-of .ensures, block-of-le b (c .before .before .before .before .before .before .before .before .before .loop .c - 1)) in
+    let whole : f + c .before .before .before .before .before .block-width .result ≡ c .before .before .before .before .before .before .before .before .before .loop .c =
+    ap (λ w. f + w) (c .before .before .before .before .before .block-width .ensures) ∙ ap (λ q. q + width n b q) (c .before .before .before .before .before .before .before .block-of .ensures) ∙ last-block n b (c .before .before .before .before .before .before .before .before .before .loop .c) (omega arith) (omega arith) (omega arith) (c .before .before .before .before .before .before .before .before .before .loop .inv .2) in
+    let first : blockOf b f ≡ f = ap (blockOf b) (c .before .before .before .before .before .before .before .block-of .ensures) ∙ block-of-block b (c .before .before .before .before .before .before .before .before .before .loop .c - 1) (omega arith) ∙ sym (c .before .before .before .before .before .before .before .block-of .ensures) in (
+      omega arith,
+      c .before .before .before .before .before .before .before .before .before .loop .inv .1,
+      inr first,
+      block-backward n b f (c .before .before .before .before .before .before .block-start .result) (c .before .before .before .before .before .block-width .result) (now (c .before .before .before .before .before .before .before .before .before .before .before .before .args .matrix)) (now (c .before .before .before .before .before .before .before .before .before .before .before .before .args .work)) (c .before .before .before .before .before .before .before .before .before .loop .work) (c .before .before .backward-block .last .1 .1 .1 .0)
+          (omega arith) (omega arith) first (c .before .before .before .before .before .before .block-start .ensures) (c .before .before .before .before .before .block-width .ensures) (omega arith) (rw whole (c .before .before .before .before .before .before .before .before .before .loop .inv .3)) (c .before .before .backward-block .ensures),
+    )
+
+same-length : tie.Need-same-length Inv-loop μ-loop
+same-length c = c .before .loop .inv .3 .size ∙ sym (c .before .before .before .before .pre .1 .1 .1)
+
+returns : tie.Need-returns Inv-loop μ-loop
+returns c =
+    let end : c .before .loop .c ≡ 0 = omega arith in
+    backward-end (c .before .before .before .before .args .shape .order) _ (now (c .before .before .before .before .args .work)) (c .before .loop .work) (rw end at (c .before .loop .inv .3))
+
+pub backward-spec : {M : Type 1} → statement M
+backward-spec =
+    tie.close
+    (tie.spec
+    Inv-loop
+    μ-loop
+    loop-holds
+    sub-block-of
+    block-of-requires
+    block-start-requires
+    block-width-requires
+    sub-backward-block
+    mul-backward-block
+    sub-backward-block-2
+    part-backward-block-start
+    part-backward-block-end
+    mul-backward-block-2
+    sub-backward-block-3
+    part-backward-block-start-2
+    part-backward-block-end-2
+    backward-block-requires
+    loop-less
+    loop-again
+    same-length
+    returns)

@@ -1,0 +1,120 @@
+use native.Mathlib.Omega.{arith}
+use lib.ListN.{length-set}
+use Rattle.solve.proofs.BlockColumns.{before-inside}
+use Prim.Native.Nat.{_-_, _≤_}
+use mathlib.Core.Path.{_≡_}
+use denote.Ref.{now}
+use lib.ListN.{length-take, length-drop}
+use Rattle.shape.specs.Places.{placeInBlock}
+use Rattle.solve.specs.Substitution.{entriesAt}
+use Rattle.solve.proofs.Triangles.{TakenFrom, taken-none, taken-all}
+use Rattle.solve.proofs.BlockColumns.{room-inside, row-inside-up}
+use Rattle.solve.proofs.blocked.backward_triangle.Statement.{statement}
+use Rattle.solve.proofs.blocked.backward_triangle.Tie as tie
+
+abbrev Inv-loop : tie.InvT-loop
+Inv-loop h w part work₀ at₀ r₀ work at r = (r ≤ w) × (at ≡ placeInBlock w r 0) × TakenFrom (entriesAt (placeInBlock w) part) w r work₀ work
+
+abbrev μ-loop : tie.MeasureT-loop
+μ-loop h w part work₀ at₀ r₀ work at r = r
+
+place-in-block-requires : tie.Need-place-in-block-requires Inv-loop μ-loop
+place-in-block-requires c κs = omega arith
+
+loop-holds : tie.Need-loop-holds Inv-loop μ-loop
+loop-holds c = (omega arith, c .place-in-block .ensures, taken-none _ (c .before .before .before .args .w) (now (c .before .before .before .args .work)))
+
+sub-at : tie.Need-sub-at Inv-loop μ-loop
+sub-at c = omega (arith, before-inside (c .before .before .before .before .before .args .w) (c .before .loop .r) (c .before .loop .at) (omega arith) (omega arith) (c .before .loop .inv .1))
+
+sub-r : tie.Need-sub-r Inv-loop μ-loop
+sub-r c = omega arith
+
+add-end : tie.Need-add-end Inv-loop μ-loop
+add-end c = omega (arith, before-inside (c .before .before .before .before .before .args .w) (c .before .loop .r) (c .before .loop .at) (omega arith) (omega arith) (c .before .loop .inv .1), room-inside (c .before .before .before .before .before .args .h) (c .before .before .before .before .before .args .w) (c .before .loop .r - 1) (omega arith) (omega arith))
+
+mul-x : tie.Need-mul-x Inv-loop μ-loop
+mul-x c = omega arith
+
+slice-read-x : tie.Need-slice-read-x Inv-loop μ-loop
+slice-read-x c = omega arith
+
+mul-x-2 : tie.Need-mul-x-2 Inv-loop μ-loop
+mul-x-2 c = omega (arith, before-inside (c .before .before .before .before .before .before .args .w) (c .before .before .loop .r) (c .before .before .loop .at) (omega arith) (omega arith) (c .before .before .loop .inv .1), room-inside (c .before .before .before .before .before .before .args .h) (c .before .before .before .before .before .before .args .w) (c .before .before .loop .r - 1) (omega arith) (omega arith))
+
+shared-slice-read-x : tie.Need-shared-slice-read-x Inv-loop μ-loop
+shared-slice-read-x c = omega (arith, before-inside (c .before .before .before .before .before .before .before .args .w) (c .before .before .before .loop .r) (c .before .before .before .loop .at) (omega arith) (omega arith) (c .before .before .before .loop .inv .1), room-inside (c .before .before .before .before .before .before .before .args .h) (c .before .before .before .before .before .before .before .args .w) (c .before .before .before .loop .r - 1) (omega arith) (omega arith))
+
+mul-work : tie.Need-mul-work Inv-loop μ-loop
+mul-work c = omega arith
+
+slice-write-work : tie.Need-slice-write-work Inv-loop μ-loop
+slice-write-work c = omega arith
+
+slice-relend-prefix-subtract-multiple :
+    tie.Need-slice-relend-prefix-subtract-multiple Inv-loop μ-loop
+slice-relend-prefix-subtract-multiple c = simp length-set (omega arith)
+
+slice-aggregate-subtract-multiple : tie.Need-slice-aggregate-subtract-multiple Inv-loop μ-loop
+slice-aggregate-subtract-multiple c = simp (length-take, length-set) (omega arith)
+
+mul-subtract-multiple : tie.Need-mul-subtract-multiple Inv-loop μ-loop
+mul-subtract-multiple c = omega (arith, before-inside (c .before .before .before .before .before .before .before .before .args .w) (c .before .before .before .before .loop .r) (c .before .before .before .before .loop .at) (omega arith) (omega arith) (c .before .before .before .before .loop .inv .1), room-inside (c .before .before .before .before .before .before .before .before .args .h) (c .before .before .before .before .before .before .before .before .args .w) (c .before .before .before .before .loop .r - 1) (omega arith) (omega arith))
+
+sub-subtract-multiple : tie.Need-sub-subtract-multiple Inv-loop μ-loop
+sub-subtract-multiple c = omega arith
+
+part-subtract-multiple-start : tie.Need-part-subtract-multiple-start Inv-loop μ-loop
+part-subtract-multiple-start c = omega arith
+
+part-subtract-multiple-end : tie.Need-part-subtract-multiple-end Inv-loop μ-loop
+part-subtract-multiple-end c = omega (arith, before-inside (c .before .before .before .before .before .before .before .before .args .w) (c .before .before .before .before .loop .r) (c .before .before .before .before .loop .at) (omega arith) (omega arith) (c .before .before .before .before .loop .inv .1), room-inside (c .before .before .before .before .before .before .before .before .args .h) (c .before .before .before .before .before .before .before .before .args .w) (c .before .before .before .before .loop .r - 1) (omega arith) (omega arith))
+
+subtract-multiple-requires : tie.Need-subtract-multiple-requires Inv-loop μ-loop
+subtract-multiple-requires c κs = simp (length-take, length-drop, length-set) (omega (arith, before-inside (c .before .before .before .before .before .before .before .before .before .args .w) (c .before .before .before .before .before .loop .r) (c .before .before .before .before .before .loop .at) (omega arith) (omega arith) (c .before .before .before .before .before .loop .inv .1), room-inside (c .before .before .before .before .before .before .before .before .before .args .h) (c .before .before .before .before .before .before .before .before .before .args .w) (c .before .before .before .before .before .loop .r - 1) (omega arith) (omega arith)))
+
+loop-less : tie.Need-loop-less Inv-loop μ-loop
+loop-less c = omega arith
+
+loop-again : tie.Need-loop-again Inv-loop μ-loop
+loop-again c =
+    let turn = row-inside-up (c .before .before .before .before .before .before .before .before .before .before .before .before .args .h) (c .before .before .before .before .before .before .before .before .before .before .before .before .args .w) (now (c .before .before .before .before .before .before .before .before .before .before .before .before .args .part)) (now (c .before .before .before .before .before .before .before .before .before .before .before .before .args .work)) (c .before .before .before .before .before .before .before .before .loop .work) (c .before .before .subtract-multiple .last .0) (omega arith) (omega arith)
+    (c .before .before .before .before .before .before .before .before .loop .r) (c .before .before .before .before .before .before .before .before .loop .at) (c .before .before .before .before .before .before .before .loop-test .taken) (c .before .before .before .before .before .before .before .before .loop .inv .0) (c .before .before .before .before .before .before .before .before .loop .inv .1) (c .before .before .before .before .before .before .before .before .loop .inv .2) (c .before .before .subtract-multiple .ensures) in
+    (omega arith, turn .0, turn .1)
+
+same-length : tie.Need-same-length Inv-loop μ-loop
+same-length c = c .before .loop .inv .2 .size
+
+returns : tie.Need-returns Inv-loop μ-loop
+returns c =
+    let end : c .before .loop .r ≡ 0 = omega arith in
+    taken-all _ (c .before .before .before .before .before .args .w) (now (c .before .before .before .before .before .args .work)) (c .before .loop .work) (rw end at (c .before .loop .inv .2))
+
+pub backward-triangle-spec : {M : Type 1} → statement M
+backward-triangle-spec =
+    tie.close
+    (tie.spec
+    Inv-loop
+    μ-loop
+    place-in-block-requires
+    loop-holds
+    sub-at
+    sub-r
+    add-end
+    mul-x
+    slice-read-x
+    mul-x-2
+    shared-slice-read-x
+    mul-work
+    slice-write-work
+    slice-relend-prefix-subtract-multiple
+    slice-aggregate-subtract-multiple
+    mul-subtract-multiple
+    sub-subtract-multiple
+    part-subtract-multiple-start
+    part-subtract-multiple-end
+    subtract-multiple-requires
+    loop-less
+    loop-again
+    same-length
+    returns)

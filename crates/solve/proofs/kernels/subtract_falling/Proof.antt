@@ -1,0 +1,66 @@
+use native.Mathlib.Omega.{arith}
+use Prim.Native.Nat.{_-_, _≤_}
+use mathlib.Core.Path.{_≡_, sym, ap, _∙_}
+use denote.Ref.{now}
+use lib.ListN.{length}
+use Rattle.solve.specs.Kernels.{fallingFrom}
+use Rattle.solve.proofs.Products.{minus-none, falling-next}
+use Rattle.solve.proofs.kernels.subtract_falling.Statement.{statement}
+use Rattle.solve.proofs.kernels.subtract_falling.Tie as tie
+
+abbrev Inv-loop : tie.InvT-loop
+Inv-loop t x at y value₀ k₀ value k = (k ≤ length y) × (value ≡ fallingFrom x at y (length y - k) t)
+
+abbrev μ-loop : tie.MeasureT-loop
+μ-loop t x at y value₀ k₀ value k = k
+
+loop-holds : tie.Need-loop-holds Inv-loop μ-loop
+loop-holds c =
+    let none : length (now (c .args .y)) - length (now (c .args .y)) ≡ 0 = omega arith in
+    (omega arith, sym (minus-none _ _ _) ∙ ap (λ m. fallingFrom (now (c .args .x)) (c .args .at) (now (c .args .y)) m (c .args .t)) (sym none))
+
+sub-k : tie.Need-sub-k Inv-loop μ-loop
+sub-k c = omega arith
+
+add-value : tie.Need-add-value Inv-loop μ-loop
+add-value c = omega arith
+
+mul-value : tie.Need-mul-value Inv-loop μ-loop
+mul-value c = omega arith
+
+shared-slice-read-value : tie.Need-shared-slice-read-value Inv-loop μ-loop
+shared-slice-read-value c = omega arith
+
+mul-value-2 : tie.Need-mul-value-2 Inv-loop μ-loop
+mul-value-2 c = omega arith
+
+shared-slice-read-value-2 : tie.Need-shared-slice-read-value-2 Inv-loop μ-loop
+shared-slice-read-value-2 c = omega arith
+
+loop-less : tie.Need-loop-less Inv-loop μ-loop
+loop-less c = omega arith
+
+loop-again : tie.Need-loop-again Inv-loop μ-loop
+loop-again c = (omega arith, falling-next (now (c .before .before .before .before .args .x)) (now (c .before .before .before .before .args .y)) (c .before .before .before .before .args .at) (c .before .before .before .loop .k) (c .before .before .before .before .args .t) (c .before .before .before .loop .value) (c .before .before .loop-test .taken) (c .before .before .before .loop .inv .0) (c .before .before .before .loop .inv .1))
+
+returns : tie.Need-returns Inv-loop μ-loop
+returns c =
+    let end : length (now (c .before .before .args .y)) - c .before .loop .k ≡ length (now (c .before .before .args .y)) = omega arith in
+    c .before .loop .inv .1 ∙ ap (λ m. fallingFrom (now (c .before .before .args .x)) (c .before .before .args .at) (now (c .before .before .args .y)) m (c .before .before .args .t)) end
+
+pub subtract-falling-spec : {M : Type 1} → statement M
+subtract-falling-spec =
+    tie.close
+    (tie.spec
+    Inv-loop
+    μ-loop
+    loop-holds
+    sub-k
+    add-value
+    mul-value
+    shared-slice-read-value
+    mul-value-2
+    shared-slice-read-value-2
+    loop-less
+    loop-again
+    returns)

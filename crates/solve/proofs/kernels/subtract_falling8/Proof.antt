@@ -1,0 +1,69 @@
+use native.Mathlib.Omega.{arith}
+use Prim.Native.Nat.{ℕ, _-_, _≤_, _<_}
+use mathlib.Core.Path.{_≡_, sym, ap, _∙_}
+use denote.Ref.{now}
+use lib.ListN.{length, getD}
+use lib.Ieee.{nan}
+use Rattle.solve.specs.Kernels.{fallingFrom}
+use Rattle.solve.proofs.Products.{minus-none, falling-next}
+use Rattle.solve.proofs.kernels.subtract_falling8.Statement.{statement}
+use Rattle.solve.proofs.kernels.subtract_falling8.Tie as tie
+
+abbrev Inv-loop : tie.InvT-loop
+Inv-loop x at y values₀ k₀ values k = (k ≤ length y) × ((s : ℕ) → s < 8 → getD values s nan ≡ fallingFrom x (getD at s 0) y (length y - k) (getD values₀ s nan))
+
+abbrev μ-loop : tie.MeasureT-loop
+μ-loop x at y values₀ k₀ values k = k
+
+loop-holds : tie.Need-loop-holds Inv-loop μ-loop
+loop-holds c =
+    let none : length (now (c .before .before .args .y)) - length (now (c .before .before .args .y)) ≡ 0 = omega arith in (
+      omega arith,
+      λ s h.
+          sym (minus-none _ _ _)
+          ∙ ap (λ m. fallingFrom (now (c .before .before .args .x)) (getD (c .before .before .args .at) s 0) (now (c .before .before .args .y)) m (getD (c .before .before .args .t) s nan)) (sym none),
+    )
+
+sub-k : tie.Need-sub-k Inv-loop μ-loop
+sub-k c = omega arith
+
+mul-step8 : tie.Need-mul-step8 Inv-loop μ-loop
+mul-step8 c = omega arith
+
+shared-slice-read-step8 : tie.Need-shared-slice-read-step8 Inv-loop μ-loop
+shared-slice-read-step8 c = omega arith
+
+step8-requires : tie.Need-step8-requires Inv-loop μ-loop
+step8-requires c κs = λ s h. omega (arith, c .before .before .before .before .before .pre s h)
+
+loop-less : tie.Need-loop-less Inv-loop μ-loop
+loop-less c = omega arith
+
+loop-again : tie.Need-loop-again Inv-loop μ-loop
+loop-again c = (
+  omega arith,
+  λ s h.
+      c .step8 .ensures s h
+      ∙ falling-next (now (c .before .before .before .before .before .before .args .x)) (now (c .before .before .before .before .before .before .args .y)) (getD (c .before .before .before .before .before .before .args .at) s 0) (c .before .before .before .loop .k) (getD (c .before .before .before .before .before .before .args .t) s nan) (getD (c .before .before .before .loop .values) s nan)
+      (c .before .before .loop-test .taken) (c .before .before .before .loop .inv .0) (c .before .before .before .loop .inv .1 s h),
+)
+
+returns : tie.Need-returns Inv-loop μ-loop
+returns c =
+    let end : length (now (c .before .before .before .before .args .y)) - c .before .loop .k ≡ length (now (c .before .before .before .before .args .y)) = omega arith in
+    λ s h. c .before .loop .inv .1 s h ∙ ap (λ m. fallingFrom (now (c .before .before .before .before .args .x)) (getD (c .before .before .before .before .args .at) s 0) (now (c .before .before .before .before .args .y)) m (getD (c .before .before .before .before .args .t) s nan)) end
+
+pub subtract-falling8-spec : {M : Type 1} → statement M
+subtract-falling8-spec =
+    tie.close
+    (tie.spec
+    Inv-loop
+    μ-loop
+    loop-holds
+    sub-k
+    mul-step8
+    shared-slice-read-step8
+    step8-requires
+    loop-less
+    loop-again
+    returns)

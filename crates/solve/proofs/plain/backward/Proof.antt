@@ -1,0 +1,178 @@
+use Rattle.solve.proofs.Packed.{part-room}
+use Rattle.solve.proofs.Substitution.{length-returned}
+use Rattle.solve.proofs.Packed.{backward-turn}
+use Prim.Native.Nat.{_+_, _-_, _%_, _≤_}
+use native.Mathlib.Omega.{arith}
+use mathlib.Core.Path.{_≡_, refl}
+use mathlib.Core.List.{List}
+use denote.Ref.{now}
+use lib.ListN.{length, length-take, length-drop}
+use lib.Ieee.{Float}
+use Rattle.shape.specs.Places.{packedPlace, triangle}
+use Rattle.calls.specs.Triangles.{height, load}
+use Rattle.solve.proofs.Substitution.{BackwardTo, backward-start, backward-end}
+use Rattle.solve.proofs.plain.backward.Statement.{statement}
+use Rattle.solve.proofs.plain.backward.Tie as tie
+
+abbrev Inv-loop : tie.InvT-loop
+Inv-loop n matrix work₀ shape left c₀ last work c =
+    (c % 8 ≡ 0) × (c ≤ n) × (length work ≡ n) × (n ≤ 4000) × (length matrix ≡ triangle n) × (shape .order ≡ n)
+    × ((y : List Float) → BackwardTo n (load (packedPlace n) (height n) n matrix) y c₀ work₀ → BackwardTo n (load (packedPlace n) (height n) n matrix) y c work)
+
+abbrev μ-loop : tie.MeasureT-loop
+μ-loop n matrix work₀ shape left c₀ last work c = c
+
+new-requires : tie.Need-new-requires Inv-loop μ-loop
+new-requires c κs = tt
+
+sub-c : tie.Need-sub-c Inv-loop μ-loop
+sub-c c = omega arith
+
+block-start-requires : tie.Need-block-start-requires Inv-loop μ-loop
+block-start-requires c κs = (omega (arith, c .new .ensures .0), omega (arith, c .new .ensures .0))
+
+mul-backward-triangle : tie.Need-mul-backward-triangle Inv-loop μ-loop
+mul-backward-triangle c = omega (arith, part-room (c .before .before .before .before .args .n) (c .before .before .before .before .args .n - c .before .before .before .before .args .n % 8) _ (c .block-start .result) (omega arith) refl (rw (c .before .new .ensures .0) at (c .block-start .ensures)))
+
+sub-backward-triangle : tie.Need-sub-backward-triangle Inv-loop μ-loop
+sub-backward-triangle c = omega (arith, part-room (c .before .before .before .before .args .n) (c .before .before .before .before .args .n - c .before .before .before .before .args .n % 8) _ (c .block-start .result) (omega arith) refl (rw (c .before .new .ensures .0) at (c .block-start .ensures)))
+
+part-backward-triangle-start : tie.Need-part-backward-triangle-start Inv-loop μ-loop
+part-backward-triangle-start c = omega (arith, part-room (c .before .before .before .before .args .n) (c .before .before .before .before .args .n - c .before .before .before .before .args .n % 8) _ (c .block-start .result) (omega arith) refl (rw (c .before .new .ensures .0) at (c .block-start .ensures)))
+
+part-backward-triangle-end : tie.Need-part-backward-triangle-end Inv-loop μ-loop
+part-backward-triangle-end c = omega arith
+
+mul-backward-triangle-2 : tie.Need-mul-backward-triangle-2 Inv-loop μ-loop
+mul-backward-triangle-2 c = omega arith
+
+sub-backward-triangle-2 : tie.Need-sub-backward-triangle-2 Inv-loop μ-loop
+sub-backward-triangle-2 c = omega arith
+
+part-backward-triangle-start-2 : tie.Need-part-backward-triangle-start-2 Inv-loop μ-loop
+part-backward-triangle-start-2 c = omega arith
+
+part-backward-triangle-end-2 : tie.Need-part-backward-triangle-end-2 Inv-loop μ-loop
+part-backward-triangle-end-2 c = omega arith
+
+backward-triangle-requires : tie.Need-backward-triangle-requires Inv-loop μ-loop
+backward-triangle-requires c κs =
+    let rows : c .before .before .before .before .before .before .args .n % 8 ≡ c .before .before .before .before .before .before .args .n - (c .before .before .before .before .before .before .args .n - c .before .before .before .before .before .before .args .n % 8) = omega arith in
+    let room = part-room (c .before .before .before .before .before .before .args .n) (c .before .before .before .before .before .before .args .n - c .before .before .before .before .before .before .args .n % 8) (c .before .before .before .before .before .before .args .n % 8) (c .before .before .block-start .result) (omega arith) rows (rw (c .before .before .before .new .ensures .0) at (c .before .before .block-start .ensures)) in
+    (omega arith, (omega arith, (simp (length-take, length-drop) (omega (arith, room)), simp (length-take, length-drop) (omega arith))))
+
+loop-holds : tie.Need-loop-holds Inv-loop μ-loop
+loop-holds c = (
+  omega arith,
+  omega arith,
+  length-returned (c .before .before .before .before .before .before .before .before .before .args .n) (c .before .before .before .before .before .before .before .before .before .args .n - c .before .before .before .before .before .before .before .before .before .args .n % 8) (now (c .before .before .before .before .before .before .before .before .before .args .work)) (c .before .before .backward-triangle .last .1 .1 .1 .0) (omega arith) (omega arith) (c .before .before .backward-triangle .kept .1 .1 .1 .0),
+  omega arith,
+  omega arith,
+  c .before .before .before .before .before .before .new .ensures .0,
+  λ y s. s,
+)
+
+sub-c-2 : tie.Need-sub-c-2 Inv-loop μ-loop
+sub-c-2 c = omega arith
+
+block-start-requires-2 : tie.Need-block-start-requires-2 Inv-loop μ-loop
+block-start-requires-2 c κs = (omega (arith, c .before .loop .inv .5, c .before .loop .inv .3), omega (arith, c .before .loop .inv .5, c .before .loop .inv .1))
+
+sub-backward-columns8 : tie.Need-sub-backward-columns8 Inv-loop μ-loop
+sub-backward-columns8 c = omega arith
+
+mul-backward-columns8 : tie.Need-mul-backward-columns8 Inv-loop μ-loop
+mul-backward-columns8 c = omega (arith, part-room (c .before .before .before .before .before .before .before .before .before .before .before .before .args .n) (c .before .before .loop .c - 8) _ (c .block-start2 .result) (omega arith) refl (rw (c .before .before .loop .inv .5) at (c .block-start2 .ensures)))
+
+sub-backward-columns8-2 : tie.Need-sub-backward-columns8-2 Inv-loop μ-loop
+sub-backward-columns8-2 c = omega (arith, part-room (c .before .before .before .before .before .before .before .before .before .before .before .before .args .n) (c .before .before .loop .c - 8) _ (c .block-start2 .result) (omega arith) refl (rw (c .before .before .loop .inv .5) at (c .block-start2 .ensures)))
+
+part-backward-columns8-start : tie.Need-part-backward-columns8-start Inv-loop μ-loop
+part-backward-columns8-start c = omega (arith, part-room (c .before .before .before .before .before .before .before .before .before .before .before .before .args .n) (c .before .before .loop .c - 8) _ (c .block-start2 .result) (omega arith) refl (rw (c .before .before .loop .inv .5) at (c .block-start2 .ensures)))
+
+part-backward-columns8-end : tie.Need-part-backward-columns8-end Inv-loop μ-loop
+part-backward-columns8-end c = omega arith
+
+mul-backward-columns8-2 : tie.Need-mul-backward-columns8-2 Inv-loop μ-loop
+mul-backward-columns8-2 c = omega arith
+
+sub-backward-columns8-3 : tie.Need-sub-backward-columns8-3 Inv-loop μ-loop
+sub-backward-columns8-3 c = omega arith
+
+part-backward-columns8-start-2 : tie.Need-part-backward-columns8-start-2 Inv-loop μ-loop
+part-backward-columns8-start-2 c = omega arith
+
+part-backward-columns8-end-2 : tie.Need-part-backward-columns8-end-2 Inv-loop μ-loop
+part-backward-columns8-end-2 c = omega arith
+
+backward-columns8-requires : tie.Need-backward-columns8-requires Inv-loop μ-loop
+backward-columns8-requires c κs =
+    let room = part-room (c .before .before .before .before .before .before .before .before .before .before .before .before .before .before .args .n) (c .before .before .before .before .loop .c - 8) _ (c .before .before .block-start2 .result) (omega arith) refl (rw (c .before .before .before .before .loop .inv .5) at (c .before .before .block-start2 .ensures)) in
+    (omega arith, (omega arith, (simp (length-take, length-drop) (omega (arith, room, c .before .before .before .before .loop .inv .4)), simp (length-take, length-drop) (omega (arith, c .before .before .before .before .loop .inv .2)))))
+
+loop-less : tie.Need-loop-less Inv-loop μ-loop
+loop-less c = omega arith
+
+loop-again : tie.Need-loop-again Inv-loop μ-loop
+loop-again c =
+    let back : c .before .before .before .before .before .before .before .loop .c - 8 + 8 ≡ c .before .before .before .before .before .before .before .loop .c = omega arith in (
+      omega arith,
+      omega arith,
+      length-returned (c .before .before .before .before .before .before .before .before .before .before .before .before .before .before .before .before .before .args .n) (c .before .before .before .before .before .before .before .loop .c - 8) (c .before .before .before .before .before .before .before .loop .work) (c .before .before .backward-columns8 .last .1 .1 .0) (c .before .before .before .before .before .before .before .loop .inv .2) (omega arith) (c .before .before .backward-columns8 .kept .1 .1 .0),
+      c .before .before .before .before .before .before .before .loop .inv .3,
+      c .before .before .before .before .before .before .before .loop .inv .4,
+      c .before .before .before .before .before .before .before .loop .inv .5,
+      λ y s.
+          backward-turn (c .before .before .before .before .before .before .before .before .before .before .before .before .before .before .before .before .before .args .n) (c .before .before .before .before .before .before .before .loop .c - 8) 8 (c .before .before .before .before .before .before .before .before .before .before .before .before .before .before .before .before .before .args .n - (c .before .before .before .before .before .before .before .loop .c - 8)) (c .before .before .before .before .before .block-start2 .result) (now (c .before .before .before .before .before .before .before .before .before .before .before .before .before .before .before .before .before .args .matrix)) y (c .before .before .before .before .before .before .before .loop .work) (c .before .before .backward-columns8 .last .1 .1 .0)
+          (c .before .before .before .before .before .before .before .loop .inv .4) (omega arith) refl (rw (c .before .before .before .before .before .before .before .loop .inv .5) at (c .before .before .before .before .before .block-start2 .ensures)) (rw back (c .before .before .before .before .before .before .before .loop .inv .6 y s)) (c .before .before .backward-columns8 .ensures),
+    )
+
+same-length : tie.Need-same-length Inv-loop μ-loop
+same-length c = omega (arith, c .before .loop .inv)
+
+returns : tie.Need-returns Inv-loop μ-loop
+returns c =
+    let rows : c .before .before .before .before .before .before .before .before .before .before .before .args .n % 8 ≡ c .before .before .before .before .before .before .before .before .before .before .before .args .n - (c .before .before .before .before .before .before .before .before .before .before .before .args .n - c .before .before .before .before .before .before .before .before .before .before .before .args .n % 8) = omega arith in
+    let whole : c .before .before .before .before .before .before .before .before .before .before .before .args .n - c .before .before .before .before .before .before .before .before .before .before .before .args .n % 8 + c .before .before .before .before .before .before .before .before .before .before .before .args .n % 8 ≡ c .before .before .before .before .before .before .before .before .before .before .before .args .n = omega arith in
+    let end : c .before .loop .c ≡ 0 = omega arith in
+    backward-end (c .before .before .before .before .before .before .before .before .before .before .before .args .n) _ (now (c .before .before .before .before .before .before .before .before .before .before .before .args .work)) (c .before .loop .work)
+    (rw end at (c .before .loop .inv .6 (now (c .before .before .before .before .before .before .before .before .before .before .before .args .work))
+    (backward-turn (c .before .before .before .before .before .before .before .before .before .before .before .args .n) (c .before .before .before .before .before .before .before .before .before .before .before .args .n - c .before .before .before .before .before .before .before .before .before .before .before .args .n % 8) (c .before .before .before .before .before .before .before .before .before .before .before .args .n % 8) (c .before .before .before .before .before .before .before .before .before .before .before .args .n % 8) (c .before .before .before .before .before .before .before .block-start .result) (now (c .before .before .before .before .before .before .before .before .before .before .before .args .matrix)) (now (c .before .before .before .before .before .before .before .before .before .before .before .args .work)) (now (c .before .before .before .before .before .before .before .before .before .before .before .args .work))
+    (c .before .before .before .before .backward-triangle .last .1 .1 .1 .0) (c .before .before .before .before .before .before .before .before .before .before .before .pre .1 .0) (omega arith) rows (rw (c .before .before .before .before .before .before .before .before .new .ensures .0) at (c .before .before .before .before .before .before .before .block-start .ensures))
+    (rw whole (backward-start (c .before .before .before .before .before .before .before .before .before .before .before .args .n) _ (now (c .before .before .before .before .before .before .before .before .before .before .before .args .work)) (c .before .before .before .before .before .before .before .before .before .before .before .pre .1 .1))) (c .before .before .before .before .backward-triangle .ensures))))
+
+pub backward-spec : {M : Type 1} → statement M
+backward-spec =
+    tie.close
+    (tie.spec
+    Inv-loop
+    μ-loop
+    new-requires
+    sub-c
+    block-start-requires
+    mul-backward-triangle
+    sub-backward-triangle
+    part-backward-triangle-start
+    part-backward-triangle-end
+    mul-backward-triangle-2
+    sub-backward-triangle-2
+    part-backward-triangle-start-2
+    part-backward-triangle-end-2
+    backward-triangle-requires
+    loop-holds
+    sub-c-2
+    block-start-requires-2
+    sub-backward-columns8
+    mul-backward-columns8
+    sub-backward-columns8-2
+    part-backward-columns8-start
+    part-backward-columns8-end
+    mul-backward-columns8-2
+    sub-backward-columns8-3
+    part-backward-columns8-start-2
+    part-backward-columns8-end-2
+    backward-columns8-requires
+    loop-less
+    loop-again
+    same-length
+    returns)

@@ -1,0 +1,64 @@
+use mathlib.Core.List.{[]}
+use Rattle.solve.proofs.Packed.{column-whole, column-size}
+use native.Mathlib.Omega.{arith}
+use denote.Ref.{now}
+use lib.ListN.{length-take, length-drop, length-set}
+use Rattle.solve.proofs.Packed.{column-done}
+use borrow.Author.Needs.{needs}
+use Rattle.solve.proofs.plain.forward_column.Statement.{statement}
+use Rattle.solve.proofs.plain.forward_column.Tie as tie
+
+slice-read-y : tie.Need-slice-read-y
+slice-read-y c = search needs
+
+shared-slice-read-y : tie.Need-shared-slice-read-y
+shared-slice-read-y c = search needs
+
+slice-write-work : tie.Need-slice-write-work
+slice-write-work c = search needs
+
+sub-subtract-multiple : tie.Need-sub-subtract-multiple
+sub-subtract-multiple c = search needs
+
+part-subtract-multiple-start : tie.Need-part-subtract-multiple-start
+part-subtract-multiple-start c = search needs
+
+part-subtract-multiple-end : tie.Need-part-subtract-multiple-end
+part-subtract-multiple-end c = search needs
+
+sub-subtract-multiple-2 : tie.Need-sub-subtract-multiple-2
+sub-subtract-multiple-2 c = search needs
+
+part-subtract-multiple-start-2 : tie.Need-part-subtract-multiple-start-2
+part-subtract-multiple-start-2 c = search needs
+
+part-subtract-multiple-end-2 : tie.Need-part-subtract-multiple-end-2
+part-subtract-multiple-end-2 c = search needs
+
+subtract-multiple-requires : tie.Need-subtract-multiple-requires
+subtract-multiple-requires c κs = simp (length-take, length-drop, length-set) (omega arith)
+
+same-length : tie.Need-same-length
+same-length c = column-size (now (c .before .before .before .before .before .before .before .before .before .args .column)) (now (c .before .before .before .before .before .before .before .before .before .args .work)) (c .before .before .subtract-multiple .last .0) [] (c .before .before .before .before .before .before .before .before .before .pre .0) (c .before .before .before .before .before .before .before .before .before .pre .1) (c .before .before .subtract-multiple .kept .0)
+
+returns : tie.Need-returns
+returns c =
+    column-done (now (c .before .before .before .before .before .before .before .before .before .args .column)) (now (c .before .before .before .before .before .before .before .before .before .args .work)) (c .before .before .subtract-multiple .last .0) _ (c .before .before .before .before .before .before .before .before .before .pre .0) (c .before .before .before .before .before .before .before .before .before .pre .1) (c .before .before .subtract-multiple .ensures)
+    (column-whole (now (c .before .before .before .before .before .before .before .before .before .args .column)) (now (c .before .before .before .before .before .before .before .before .before .args .work)) (c .before .before .subtract-multiple .last .0) [] (c .before .before .before .before .before .before .before .before .before .pre .0) (c .before .before .before .before .before .before .before .before .before .pre .1) (c .before .before .subtract-multiple .kept .0))
+
+pub forward-column-spec : {M : Type 1} → statement M
+forward-column-spec =
+    tie.close
+    (tie.spec
+    slice-read-y
+    shared-slice-read-y
+    slice-write-work
+    sub-subtract-multiple
+    part-subtract-multiple-start
+    part-subtract-multiple-end
+    sub-subtract-multiple-2
+    part-subtract-multiple-start-2
+    part-subtract-multiple-end-2
+    subtract-multiple-requires
+    same-length
+    returns)

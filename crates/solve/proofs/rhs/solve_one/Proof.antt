@@ -1,0 +1,54 @@
+-- `solve::rhs::solve_one` meets its contract: a solution that passes takes the place of its right-hand side. Assumes nothing.
+use Rattle.solve.specs.Solving.{factorOf}
+use Rattle.solve.proofs.RightSides.{one-refused, one-solved}
+use denote.Ref.{now}
+use borrow.Author.Needs.{needs}
+use Rattle.solve.proofs.rhs.solve_one.Statement.{statement}
+use Rattle.solve.proofs.rhs.solve_one.Tie as tie
+
+copy-requires : tie.Need-copy-requires
+copy-requires c κs = search needs
+
+substitute-requires : tie.Need-substitute-requires
+substitute-requires c κs = search needs
+
+same-length : tie.Need-same-length
+same-length c = search needs
+
+same-length-2 : tie.Need-same-length-2
+same-length-2 c = search needs
+
+returns : tie.Need-returns
+returns c =
+    let args = c .before .before .before .before .before .before .before .before .before .before .before .before .before .args in
+    one-refused (args .shape .order) (factorOf (args .layout) (args .shape .order) (args .shape .block) (now (args .matrix))) (now (args .rhs)) _ _ _
+    (c .before .before .before .before .before .before .before .copy .ensures) (c .before .before .before .substitute .ensures) (c .if1 .taken)
+
+copy-requires-2 : tie.Need-copy-requires-2
+copy-requires-2 c κs = search needs
+
+same-length-3 : tie.Need-same-length-3
+same-length-3 c = search needs
+
+same-length-4 : tie.Need-same-length-4
+same-length-4 c = search needs
+
+returns-2 : tie.Need-returns-2
+returns-2 c =
+    let args = c .before .before .before .before .before .before .before .before .before .before .before .before .before .before .before .before .before .before .args in
+    one-solved (args .shape .order) (factorOf (args .layout) (args .shape .order) (args .shape .block) (now (args .matrix))) (now (args .rhs)) _ _ _ _
+    (c .before .before .before .before .before .before .before .before .before .before .before .before .copy .ensures) (c .before .before .before .before .before .before .before .before .substitute .ensures) (c .before .before .before .before .before .if1 .left) (c .before .before .copy2 .ensures)
+
+pub solve-one-spec : {M : Type 1} → statement M
+solve-one-spec =
+    tie.close
+    (tie.spec
+    copy-requires
+    substitute-requires
+    same-length
+    same-length-2
+    returns
+    copy-requires-2
+    same-length-3
+    same-length-4
+    returns-2)

@@ -1,0 +1,27 @@
+-- What the loops over values promise, free of any matrix.
+use Prim.Native.Nat.{ℕ, _+_, _-_, _≤_, _<_}
+use mathlib.Core.Path.{_≡_}
+use mathlib.Core.List.{List}
+use lib.ListN.{length, getD}
+use lib.Ieee.{Float, nan, binary64, sub, mul}
+use Rattle.calls.specs.Arithmetic.{minusProducts}
+
+-- t less the first products x(at + k)·y(k), k = 0, 1, .., of which `count` are taken
+abbrev pub risingFrom : List Float → ℕ → List Float → ℕ → Float → Float
+risingFrom x at y count t = minusProducts (λ k. getD x (at + k) nan) (λ k. getD y k nan) count t
+
+-- the same for k = length y − 1, length y − 2, ..
+abbrev pub fallingFrom : List Float → ℕ → List Float → ℕ → Float → Float
+fallingFrom x at y count t = minusProducts (λ k. getD x (at + (length y - 1 - k)) nan) (λ k. getD y (length y - 1 - k) nan) count t
+
+-- each value of v less that of x times y
+pub record MultipleSubtracted (v x : List Float) (y : Float) (v′ : List Float) : Type 0 where
+  pub size : length v′ ≡ length v
+  pub value : (r : ℕ) → r < length v → getD v′ r nan ≡ sub binary64 (getD v r nan) (mul binary64 (getD x r nan) y)
+
+-- zs is xs with the k elements from a on replaced by those of ys
+pub record Replaced {A : Type 0} (d : A) (a k : ℕ) (xs ys zs : List A) : Type 0 where
+  pub size : length zs ≡ length xs
+  pub before : (i : ℕ) → i < a → getD zs i d ≡ getD xs i d
+  pub inside : (r : ℕ) → r < k → getD zs (a + r) d ≡ getD ys r d
+  pub after : (i : ℕ) → a + k ≤ i → getD zs i d ≡ getD xs i d

@@ -1,0 +1,4 @@
+-- What the loops of the two solvers promise.
+pub mod Kernels
+pub mod Substitution
+pub mod Solving

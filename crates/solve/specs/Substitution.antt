@@ -1,0 +1,70 @@
+-- What is promised of one block column in a substitution. Rows and columns count from its first; h is the number of its rows and w that of its
+-- columns, and its first w rows are its triangle. `coefficient r s` is the factor's entry in row r and column s.
+use Prim.Native.Nat.{ℕ, _-_, _≤_, _<_}
+use mathlib.Core.Path.{_≡_}
+use mathlib.Core.List.{List}
+use lib.ListN.{length, getD}
+use lib.Ieee.{Float, nan, binary64, div}
+use Rattle.shape.specs.Bounds.{maxOrder}
+use Rattle.shape.specs.Places.{blockStart}
+use Rattle.calls.specs.Arithmetic.{minusProducts}
+
+-- the entries that a memory holds at the places of a layout
+abbrev pub entriesAt : (ℕ → ℕ → ℕ) → List Float → ℕ → ℕ → Float
+entriesAt place memory r s = getD memory (place r s) nan
+
+-- a block column of blocked memory and the right-hand side's rows beside it
+pub record BlockColumn (h w : ℕ) (part work : List Float) : Type 0 where
+  pub order : h ≤ maxOrder
+  pub columns : 0 < w
+  pub fits : w ≤ h
+  pub values : blockStart h w ≤ length part
+  pub rows : length work ≡ h
+
+-- ---- forward
+
+-- the rows of the triangle are finished
+pub record TriangleForward (coefficient : ℕ → ℕ → Float) (w : ℕ) (v v′ : List Float) : Type 0 where
+  pub size : length v′ ≡ length v
+  pub inside :
+      (r : ℕ) → r < w →
+      getD v′ r nan ≡ div binary64 (minusProducts (λ k. coefficient r k) (λ k. getD v′ k nan) r (getD v r nan)) (coefficient r r)
+  pub under : (r : ℕ) → w ≤ r → getD v′ r nan ≡ getD v r nan
+
+-- the triangle being finished, its products are subtracted from the rows from `from` on and before `to`
+pub record RowsSubtracted (coefficient : ℕ → ℕ → Float) (w from to : ℕ) (v v′ : List Float) : Type 0 where
+  pub size : length v′ ≡ length v
+  pub inside :
+      (r : ℕ) → from ≤ r → r < to →
+      getD v′ r nan ≡ minusProducts (λ k. coefficient r k) (λ k. getD v k nan) w (getD v r nan)
+  pub before : (r : ℕ) → r < from → getD v′ r nan ≡ getD v r nan
+  pub after : (r : ℕ) → to ≤ r → getD v′ r nan ≡ getD v r nan
+
+-- both
+pub record ForwardDone (coefficient : ℕ → ℕ → Float) (h w : ℕ) (v v′ : List Float) : Type 0 where
+  pub size : length v′ ≡ length v
+  pub inside :
+      (r : ℕ) → r < w →
+      getD v′ r nan ≡ div binary64 (minusProducts (λ k. coefficient r k) (λ k. getD v′ k nan) r (getD v r nan)) (coefficient r r)
+  pub under :
+      (r : ℕ) → w ≤ r → r < h →
+      getD v′ r nan ≡ minusProducts (λ k. coefficient r k) (λ k. getD v′ k nan) w (getD v r nan)
+
+-- ---- backward
+
+-- the rows below the triangle being finished, their products are subtracted from its rows, from the last row up
+pub record ProductsSubtracted (coefficient : ℕ → ℕ → Float) (h w : ℕ) (v v′ : List Float) : Type 0 where
+  pub size : length v′ ≡ length v
+  pub inside :
+      (r : ℕ) → r < w →
+      getD v′ r nan ≡ minusProducts (λ k. coefficient (h - 1 - k) r) (λ k. getD v (h - 1 - k) nan) (h - w) (getD v r nan)
+  pub under : (r : ℕ) → w ≤ r → getD v′ r nan ≡ getD v r nan
+
+-- the rows of the triangle are finished too, from the last row up; for h ≡ w there are no rows below it
+pub record BackwardDone (coefficient : ℕ → ℕ → Float) (h w : ℕ) (v v′ : List Float) : Type 0 where
+  pub size : length v′ ≡ length v
+  pub inside :
+      (r : ℕ) → r < w →
+      getD v′ r nan
+      ≡ div binary64 (minusProducts (λ k. coefficient (h - 1 - k) r) (λ k. getD v′ (h - 1 - k) nan) (h - 1 - r) (getD v r nan)) (coefficient r r)
+  pub under : (r : ℕ) → w ≤ r → getD v′ r nan ≡ getD v r nan

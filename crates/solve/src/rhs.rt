@@ -1,0 +1,136 @@
+// One right-hand side and all of them, on a factor in either layout.
+ghost use mathlib.Core.Path.{_≡_};
+ghost use Prim.Native.Nat.{_*_, _≤_};
+ghost use lib.ListN.{length, replicate};
+ghost use Rattle.binary64.specs.Kinds.{zero64};
+ghost use Rattle.shape.specs.Bounds.{maxRhs};
+ghost use Rattle.calls.specs.Arithmetic as Arithmetic;
+ghost use Rattle.calls.specs.Calls as Calls;
+ghost use Rattle.calls.specs.Calls.{SolvedAs};
+ghost use Rattle.solve.specs.Solving.{Checked, factorOf, Substituted, RhsSolved, AllSolved};
+use crate::blocked;
+use crate::kernels;
+use crate::plain;
+use calls::CallResult;
+use calls::Layout;
+use shape::Shape;
+
+fn forward(layout: Layout, shape: Shape, matrix: &[f64], work: &mut [f64])
+    requires { ⌜ Checked layout (shape .order) (shape .block) (now matrix) (now work) ⌝ }
+    ensures { λ _. ⌜ now (work .exit) ≡ Arithmetic.forward (shape .order) (factorOf layout (shape .order) (shape .block) (now (matrix .entry))) (now (work .entry)) ⌝ }
+{
+    let n = shape.order;
+    match layout {
+        Layout::Packed => plain::forward(n, matrix, work),
+        Layout::Blocked => blocked::forward(shape, matrix, work),
+    }
+}
+
+fn backward(layout: Layout, shape: Shape, matrix: &[f64], work: &mut [f64])
+    requires { ⌜ Checked layout (shape .order) (shape .block) (now matrix) (now work) ⌝ }
+    ensures { λ _. ⌜ now (work .exit) ≡ Arithmetic.backward (shape .order) (factorOf layout (shape .order) (shape .block) (now (matrix .entry))) (now (work .entry)) ⌝ }
+{
+    let n = shape.order;
+    match layout {
+        Layout::Packed => plain::backward(n, matrix, work),
+        Layout::Blocked => blocked::backward(shape, matrix, work),
+    }
+}
+
+// Both substitutions, and whether every y and x is finite.
+fn substitute(layout: Layout, shape: Shape, matrix: &[f64], work: &mut [f64]) -> bool
+    requires { ⌜ Checked layout (shape .order) (shape .block) (now matrix) (now work) ⌝ }
+    ensures { λ r. ⌜ Substituted (shape .order) (factorOf layout (shape .order) (shape .block) (now (matrix .entry))) (now (work .entry)) r (now (work .exit)) ⌝ }
+{
+    forward(layout, shape, matrix, work);
+    if !calls::all_finite(work) {
+        return false;
+    }
+    backward(layout, shape, matrix, work);
+    calls::all_finite(work)
+}
+
+// The solution takes the right-hand side's place where it passes.
+fn solve_one(
+    layout: Layout,
+    shape: Shape,
+    matrix: &[f64],
+    rhs: &mut [f64],
+    work: &mut [f64],
+) -> bool
+    requires { ⌜ Checked layout (shape .order) (shape .block) (now matrix) (now work) ⌝ }
+    requires { ⌜ length (now rhs) ≡ shape .order ⌝ }
+    ensures { λ r. ⌜ RhsSolved (shape .order) (factorOf layout (shape .order) (shape .block) (now (matrix .entry))) (now (rhs .entry)) r (now (rhs .exit)) ⌝ }
+{
+    kernels::copy(rhs, work);
+    if !substitute(layout, shape, matrix, work) {
+        return false;
+    }
+    kernels::copy(work, rhs);
+    true
+}
+
+// In rising order, up to the first that is refused.
+fn solve_all(
+    layout: Layout,
+    shape: Shape,
+    m: usize,
+    matrix: &[f64],
+    rhs: &mut [f64],
+    work: &mut [f64],
+) -> CallResult
+    requires { ⌜ Checked layout (shape .order) (shape .block) (now matrix) (now work) ⌝ }
+    requires { ⌜ length (now rhs) ≡ shape .order * m ⌝ }
+    ensures { λ r. ⌜ AllSolved (shape .order) m (factorOf layout (shape .order) (shape .block) (now (matrix .entry))) (now (rhs .entry)) r (now (rhs .exit)) ⌝ }
+{
+    let n = shape.order;
+    let mut from = 0;
+    let mut q = 0;
+    while q < m {
+        let to = from + n;
+        if !solve_one(layout, shape, matrix, &mut rhs[from..to], work) {
+            return calls::refusal(12, q);
+        }
+        from = to;
+        q += 1;
+    }
+    calls::refusal(0, 0)
+}
+
+// All right-hand sides, with the work memory cleared afterwards.
+fn solve_cleared(
+    layout: Layout,
+    shape: Shape,
+    m: usize,
+    matrix: &[f64],
+    rhs: &mut [f64],
+    work: &mut [f64],
+) -> CallResult
+    requires { ⌜ Checked layout (shape .order) (shape .block) (now matrix) (now work) ⌝ }
+    requires { ⌜ length (now rhs) ≡ shape .order * m ⌝ }
+    ensures { λ r. ⌜ AllSolved (shape .order) m (factorOf layout (shape .order) (shape .block) (now (matrix .entry))) (now (rhs .entry)) r (now (rhs .exit)) ⌝ }
+    ensures { λ _. ⌜ now (work .exit) ≡ replicate (shape .order) zero64 ⌝ }
+{
+    let result = solve_all(layout, shape, m, matrix, rhs, work);
+    calls::clear(work);
+    result
+}
+
+// The checks, and the right-hand sides where they pass.
+pub fn solve(
+    layout: Layout,
+    shape: Shape,
+    m: usize,
+    matrix: &[f64],
+    rhs: &mut [f64],
+    work: &mut [f64],
+) -> CallResult
+    ensures { λ r. ⌜ SolvedAs (Calls.solve layout (shape .order) (shape .block) m (now (matrix .entry)) (now (rhs .entry)) (now (work .entry))) r (now (rhs .exit)) (now (work .exit)) ⌝ }
+{
+    let checks = calls::check_solver(layout, shape, m, matrix, rhs, work.len());
+    if !calls::accepted(checks) {
+        return checks;
+    }
+    let n = shape.order;
+    solve_cleared(layout, shape, m, matrix, rhs, &mut work[..n])
+}
