@@ -5,3 +5,16 @@ pub mod PlainColumns
 pub mod PlainVerdicts
 pub mod PlainPrefixes
 pub mod PlainOutcomes
+pub mod Products
+pub mod BlockRows
+pub mod Lanes
+pub mod Packing
+pub mod Panels
+pub mod Finishing
+pub mod ColumnVerdicts
+pub mod Stages
+pub mod Runs
+pub mod EarlierBlocks
+pub mod BlockParts
+pub mod BlockLoop
+pub mod BlockOutcomes

@@ -1,0 +1,117 @@
+-- What the steps of the blocked factor promise of a block column of width w in a memory: it starts at place `at`, and row r of it, which is
+-- row c + r of the matrix, at rowStart w r from there.
+use Prim.Native.Nat.{ℕ, _+_, _-_, _*_, _≤_, _<_}
+use mathlib.Core.Path.{_≡_}
+use mathlib.Core.Logic.{_≢_, _⊎_}
+use mathlib.Core.Bool.{Bool}
+use mathlib.Core.List.{List, [], _∷_}
+use lib.Dec.{T}
+use lib.ListN.{length, getD}
+use lib.Ieee.{Float, nan, binary64, div}
+use Rattle.binary64.specs.Kinds.{finite}
+use Rattle.binary64.specs.Root.{root}
+use Rattle.binary64.specs.Judged.{judged}
+use Rattle.shape.specs.Bounds.{maxOrder}
+use Rattle.shape.specs.Places.{placeInBlock}
+use Rattle.calls.specs.declared.CallResult.{CallResult}
+use Rattle.calls.specs.Sequences.{tabulate, all}
+use Rattle.calls.specs.Arithmetic.{minusProducts}
+use Rattle.calls.specs.Refusals.{accepted, firstRefusal, rule10, rule11}
+
+abbrev pub rowStart : ℕ → ℕ → ℕ
+rowStart w r = placeInBlock w r 0
+
+-- the values from place x on
+abbrev pub rowAt : List Float → ℕ → ℕ → Float
+rowAt m x = λ k. getD m (x + k) nan
+
+-- column t of a panel packed 16 wide
+abbrev pub laneAt : List Float → ℕ → ℕ → Float
+laneAt panel t = λ k. getD panel (16 * k + t) nan
+
+-- count places from `from` on hold f 0, f 1, .., and the others are as they were
+pub record Filled (from count : ℕ) (f : ℕ → Float) (m m′ : List Float) : Type 0 where
+  pub kept : length m′ ≡ length m
+  pub inside : (t : ℕ) → t < count → getD m′ (from + t) nan ≡ f t
+  pub before : (p : ℕ) → p < from → getD m′ p nan ≡ getD m p nan
+  pub after : (p : ℕ) → from + count ≤ p → getD m′ p nan ≡ getD m p nan
+
+-- lane t of a panel holds f 0, f 1, .., and the other lanes are as they were
+pub record LanePacked (t count : ℕ) (f : ℕ → Float) (panel panel′ : List Float) : Type 0 where
+  pub kept : length panel′ ≡ length panel
+  pub new : (k : ℕ) → k < count → laneAt panel′ t k ≡ f k
+  pub others : (u k : ℕ) → u < 16 → u ≢ t → laneAt panel′ u k ≡ laneAt panel u k
+
+-- the first lanes of a panel hold rows of the block column at `start`, from row `first` on
+pub record Packed (panel m : List Float) (start w first count lanes : ℕ) : Type 0 where
+  pub lane : (t k : ℕ) → t < lanes → k < count → laneAt panel t k ≡ rowAt m (start + rowStart w (first + t)) k
+
+-- column s of row r is one of g columns from s0 on, of the first h rows
+pub record InPanel (h s0 g r s : ℕ) : Type 0 where
+  pub lower : s ≤ r
+  pub row : r < h
+  pub left : s0 ≤ s
+  pub right : s < s0 + g
+
+-- The first `count` products x r k · x s k are subtracted from entry (r, s) of those columns, and all else is as it was.
+pub record PanelUpdated (at w h s0 g : ℕ) (x : ℕ → ℕ → Float) (count : ℕ) (m m′ : List Float) : Type 0 where
+  pub kept : length m′ ≡ length m
+  pub inside :
+      (r s : ℕ) → InPanel h s0 g r s →
+      getD m′ (at + rowStart w r + s) nan ≡ minusProducts (x r) (x s) count (getD m (at + rowStart w r + s) nan)
+  pub outside :
+      (p : ℕ) → ((r s : ℕ) → InPanel h s0 g r s → p ≢ at + rowStart w r + s) → getD m′ p nan ≡ getD m p nan
+
+-- Row r of the target's h rows is the source's row sh − h + r. The source is an earlier block column, or the target itself with the columns
+-- before s0.
+pub record Source (len at w h sat sw sh s0 g count : ℕ) : Type 0 where
+  pub order : sh ≤ maxOrder
+  pub below : h ≤ sh
+  pub wide : s0 + g ≤ w
+  pub tall : w ≤ h
+  pub room : at + rowStart w h ≤ len
+  pub rows : sat + rowStart sw sh ≤ len
+  pub columns : count ≤ sw
+  pub known : count ≤ sh - h + s0
+  pub apart : (sat + rowStart sw sh ≤ at) ⊎ ((sat ≡ at) × (sw ≡ w) × (sh ≡ h))
+
+-- column k of row r of the target, in the source
+abbrev pub sourceAt : List Float → ℕ → ℕ → ℕ → ℕ → ℕ → Float
+sourceAt m sat sw d r = rowAt m (sat + rowStart sw (d + r))
+
+-- the value of entry (r, s) less its products with columns s0 .. s − 1 of the block column, which starts at place 0
+abbrev pub lessPanel : ℕ → ℕ → ℕ → List Float → ℕ → Float
+lessPanel w s0 s m r =
+    minusProducts (rowAt m (rowStart w r + s0)) (rowAt m (rowStart w s + s0)) (s - s0) (getD m (rowStart w r + s) nan)
+
+abbrev pub columnRoot : ℕ → ℕ → ℕ → List Float → Float
+columnRoot w s0 s m = root (lessPanel w s0 s m s)
+
+-- row r of column s
+abbrev pub columnQuotient : ℕ → ℕ → ℕ → List Float → Float → ℕ → Float
+columnQuotient w s0 s m diagonal r = div binary64 (lessPanel w s0 s m r) diagonal
+
+-- the rows of column s from s + 1 to h − 1
+abbrev pub columnUnder : ℕ → ℕ → ℕ → List Float → Float → ℕ → List Float
+columnUnder w s0 s m diagonal h = tabulate (h - s - 1) (λ r. columnQuotient w s0 s m diagonal (s + 1 + r))
+
+-- They are divided by the root, and nothing else changes; they are judged to be finite or not.
+pub record UnderFinished (w h s0 s : ℕ) (diagonal : Float) (m : List Float) (judgement : Bool) (m′ : List Float) : Type 0 where
+  pub kept : length m′ ≡ length m
+  pub judged : judgement ≡ all finite (columnUnder w s0 s m diagonal h)
+  pub under : (r : ℕ) → s < r → r < h → getD m′ (rowStart w r + s) nan ≡ columnQuotient w s0 s m diagonal r
+  pub outside : (p : ℕ) → ((r : ℕ) → s < r → r < h → p ≢ rowStart w r + s) → getD m′ p nan ≡ getD m p nan
+
+-- Column s of the block column, which is column c + s of the matrix, is judged, and finished where it is accepted.
+pub record ColumnFinished (c w h s0 s : ℕ) (m : List Float) (answer : CallResult) (m′ : List Float) : Type 0 where
+  pub result :
+      answer
+      ≡ firstRefusal
+        (rule10 (c + s) (judged (lessPanel w s0 s m s))
+        ∷ rule11 (c + s) (columnUnder w s0 s m (columnRoot w s0 s m) h) ∷ [])
+  pub kept : length m′ ≡ length m
+  pub diagonal : T (accepted answer) → getD m′ (rowStart w s + s) nan ≡ columnRoot w s0 s m
+  pub under :
+      T (accepted answer) → (r : ℕ) → s < r → r < h → getD m′ (rowStart w r + s) nan ≡ columnQuotient w s0 s m (columnRoot w s0 s m) r
+  pub outside :
+      (p : ℕ) → ((r : ℕ) → s ≤ r → r < h → p ≢ rowStart w r + s) → getD m′ p nan ≡ getD m p nan
