@@ -1,0 +1,2 @@
+-- Laws that the proofs of the pipelines share.
+pub mod Composition
