@@ -32,22 +32,33 @@ module _ (n b m : ℕ) (matrix rhs work : List Float) (f : CallResult) (matrix�
 -- ---- blocked
 
 module _ (n b m : ℕ) (matrix rhs work : List Float) (p : CallResult) (matrix₁ work₁ : List Float) (f : CallResult) (matrix₂ work₂ : List Float)
-  (there : DoneAs (packedToBlocked n b matrix work) p matrix₁ work₁) (factored : DoneAs (factorize Blocked n b matrix₁ work₁) f matrix₂ work₂)
+    (there : DoneAs (packedToBlocked n b matrix work) p matrix₁ work₁) (factored : DoneAs (factorize Blocked n b matrix₁ work₁) f matrix₂ work₂)
   where
-  pub blocked-refused : (f .code ≡ 0 → ⊥) → ended (record { factor = f; solver = f }) matrix₂ rhs work₂ ≡ blockedPipeline n b m matrix rhs work
-  unfolding blockedPipeline
-  blocked-refused ne =
-      rw (← there .matrix, ← there .work, ← factored .result, ← factored .matrix, ← factored .work, ne-eqb (f .code) 0 ne) refl
+    pub blocked-refused : (f .code ≡ 0 → ⊥) → ended (record { factor = f; solver = f }) matrix₂ rhs work₂ ≡ blockedPipeline n b m matrix rhs work
+    unfolding blockedPipeline
+    blocked-refused ne =
+        rw (← there .matrix, ← there .work, ← factored .result, ← factored .matrix, ← factored .work, ne-eqb (f .code) 0 ne) refl
 
-  pub blocked-accepted :
-      f .code ≡ 0 → (s : CallResult) (rhs′ work₃ : List Float) → SolvedAs (solve Blocked n b m matrix₂ rhs work₂) s rhs′ work₃ →
-      (q : CallResult) (matrix₄ work₄ : List Float) → DoneAs (blockedToPacked n b matrix₂ work₃) q matrix₄ work₄ →
-      ended (record { factor = f; solver = s }) matrix₄ rhs′ work₄ ≡ blockedPipeline n b m matrix rhs work
-  unfolding blockedPipeline
-  blocked-accepted e s rhs′ work₃ solved q matrix₄ work₄ back =
-      rw (← there .matrix, ← there .work, ← factored .result, ← factored .matrix, ← factored .work, eq-eqb (f .code) 0 e,
-      ← solved .result, ← solved .rhs, ← solved .work, ← back .matrix, ← back .work)
-      refl
+    pub blocked-accepted :
+        f .code ≡ 0 → (s : CallResult) (rhs′ work₃ : List Float) → SolvedAs (solve Blocked n b m matrix₂ rhs work₂) s rhs′ work₃ →
+        (q : CallResult) (matrix₄ work₄ : List Float) → DoneAs (blockedToPacked n b matrix₂ work₃) q matrix₄ work₄ →
+        ended (record { factor = f; solver = s }) matrix₄ rhs′ work₄ ≡ blockedPipeline n b m matrix rhs work
+    unfolding blockedPipeline
+    blocked-accepted e s rhs′ work₃ solved q matrix₄ work₄ back =
+        rw (
+          ← there .matrix,
+          ← there .work,
+          ← factored .result,
+          ← factored .matrix,
+          ← factored .work,
+          eq-eqb (f .code) 0 e,
+          ← solved .result,
+          ← solved .rhs,
+          ← solved .work,
+          ← back .matrix,
+          ← back .work,
+        )
+        refl
 
 -- ---- both
 
@@ -63,8 +74,9 @@ both-ran n b m plain block r plain′ block′ values p q =
       blockedEnded = q;
       agreed = λ same-matrix same-rhs start.
           let q′ : endedAt (r .blocked) block′ ≡ blockedPipeline n b m (plain .matrix) (plain .rhs) (block .work) =
-              q ∙ ap (λ x. blockedPipeline n b m x (block .rhs) (block .work)) same-matrix ∙ ap (λ x. blockedPipeline n b m (plain .matrix) x (block .work)) same-rhs
+          q ∙ ap (λ x. blockedPipeline n b m x (block .rhs) (block .work)) same-matrix ∙ ap (λ x. blockedPipeline n b m (plain .matrix) x (block .work)) same-rhs
           in
           subst (λ x. Agreement x (endedAt (r .blocked) block′)) (sym p)
           (subst (λ x. Agreement (plainPipeline n b m (plain .matrix) (plain .rhs) (plain .work)) x) (sym q′)
-          (pipelines-agree n b m (plain .matrix) (plain .rhs) (plain .work) (block .work) values start)) }
+          (pipelines-agree n b m (plain .matrix) (plain .rhs) (plain .work) (block .work) values start));
+    }

@@ -5,48 +5,79 @@ ghost use Rattle.calls.specs.Calls.{DoneAs, SolvedAs, packedToBlocked, blockedT
 
 mod pipelines;
 
-pub use pipelines::{blocked_pipeline, plain_pipeline, run_both, BothResults, PipelineResult};
-
 use calls::CallResult;
+pub use pipelines::BothResults;
+pub use pipelines::PipelineResult;
+pub use pipelines::blocked_pipeline;
+pub use pipelines::plain_pipeline;
+pub use pipelines::run_both;
 use shape::Shape;
 
 #[no_mangle]
-pub extern "C" fn metsovary_packed_to_blocked(shape: Shape, matrix: &mut [f64], work: &mut [f64]) -> CallResult
+pub extern "C" fn metsovary_packed_to_blocked(
+    shape: Shape,
+    matrix: &mut [f64],
+    work: &mut [f64],
+) -> CallResult
     ensures { λ r. ⌜ DoneAs (packedToBlocked (shape .order) (shape .block) (now (matrix .entry)) (now (work .entry))) r (now (matrix .exit)) (now (work .exit)) ⌝ }
 {
     rearrange::packed_to_blocked(shape, matrix, work)
 }
 
 #[no_mangle]
-pub extern "C" fn metsovary_blocked_to_packed(shape: Shape, matrix: &mut [f64], work: &mut [f64]) -> CallResult
+pub extern "C" fn metsovary_blocked_to_packed(
+    shape: Shape,
+    matrix: &mut [f64],
+    work: &mut [f64],
+) -> CallResult
     ensures { λ r. ⌜ DoneAs (blockedToPacked (shape .order) (shape .block) (now (matrix .entry)) (now (work .entry))) r (now (matrix .exit)) (now (work .exit)) ⌝ }
 {
     rearrange::blocked_to_packed(shape, matrix, work)
 }
 
 #[no_mangle]
-pub extern "C" fn metsovary_factor_plain(shape: Shape, matrix: &mut [f64], work: &mut [f64]) -> CallResult
+pub extern "C" fn metsovary_factor_plain(
+    shape: Shape,
+    matrix: &mut [f64],
+    work: &mut [f64],
+) -> CallResult
     ensures { λ r. ⌜ DoneAs (factorize Packed (shape .order) (shape .block) (now (matrix .entry)) (now (work .entry))) r (now (matrix .exit)) (now (work .exit)) ⌝ }
 {
     factor::factor_plain(shape, matrix, work)
 }
 
 #[no_mangle]
-pub extern "C" fn metsovary_factor_blocked(shape: Shape, matrix: &mut [f64], work: &mut [f64]) -> CallResult
+pub extern "C" fn metsovary_factor_blocked(
+    shape: Shape,
+    matrix: &mut [f64],
+    work: &mut [f64],
+) -> CallResult
     ensures { λ r. ⌜ DoneAs (factorize Blocked (shape .order) (shape .block) (now (matrix .entry)) (now (work .entry))) r (now (matrix .exit)) (now (work .exit)) ⌝ }
 {
     factor::factor_blocked(shape, matrix, work)
 }
 
 #[no_mangle]
-pub extern "C" fn metsovary_solve_plain(shape: Shape, m: usize, matrix: &[f64], rhs: &mut [f64], work: &mut [f64]) -> CallResult
+pub extern "C" fn metsovary_solve_plain(
+    shape: Shape,
+    m: usize,
+    matrix: &[f64],
+    rhs: &mut [f64],
+    work: &mut [f64],
+) -> CallResult
     ensures { λ r. ⌜ SolvedAs (Calls.solve Packed (shape .order) (shape .block) m (now (matrix .entry)) (now (rhs .entry)) (now (work .entry))) r (now (rhs .exit)) (now (work .exit)) ⌝ }
 {
     solve::solve_plain(shape, m, matrix, rhs, work)
 }
 
 #[no_mangle]
-pub extern "C" fn metsovary_solve_blocked(shape: Shape, m: usize, matrix: &[f64], rhs: &mut [f64], work: &mut [f64]) -> CallResult
+pub extern "C" fn metsovary_solve_blocked(
+    shape: Shape,
+    m: usize,
+    matrix: &[f64],
+    rhs: &mut [f64],
+    work: &mut [f64],
+) -> CallResult
     ensures { λ r. ⌜ SolvedAs (Calls.solve Blocked (shape .order) (shape .block) m (now (matrix .entry)) (now (rhs .entry)) (now (work .entry))) r (now (rhs .exit)) (now (work .exit)) ⌝ }
 {
     solve::solve_blocked(shape, m, matrix, rhs, work)

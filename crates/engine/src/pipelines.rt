@@ -2,7 +2,6 @@
 ghost use mathlib.Core.Path.{_≡_};
 ghost use Rattle.calls.specs.Pipelines.{plainPipeline, blockedPipeline};
 ghost use Rattle.engine.specs.Promises.{ended, memory, BothRan};
-
 use calls::CallResult;
 use shape::Shape;
 
@@ -19,7 +18,13 @@ pub struct BothResults {
 }
 
 // Plain factor, then plain solver.
-pub fn plain_pipeline(shape: Shape, m: usize, matrix: &mut [f64], rhs: &mut [f64], work: &mut [f64]) -> PipelineResult
+pub fn plain_pipeline(
+    shape: Shape,
+    m: usize,
+    matrix: &mut [f64],
+    rhs: &mut [f64],
+    work: &mut [f64],
+) -> PipelineResult
     ensures { λ r. ⌜ ended r (now (matrix .exit)) (now (rhs .exit)) (now (work .exit)) ≡ plainPipeline (shape .order) (shape .block) m (now (matrix .entry)) (now (rhs .entry)) (now (work .entry)) ⌝ }
 {
     let factor = factor::factor_plain(shape, matrix, work);
@@ -34,7 +39,13 @@ pub fn plain_pipeline(shape: Shape, m: usize, matrix: &mut [f64], rhs: &mut [f64
 }
 
 // Packed to blocked, blocked factor, blocked solver, and back to packed, after a refused solver too.
-pub fn blocked_pipeline(shape: Shape, m: usize, matrix: &mut [f64], rhs: &mut [f64], work: &mut [f64]) -> PipelineResult
+pub fn blocked_pipeline(
+    shape: Shape,
+    m: usize,
+    matrix: &mut [f64],
+    rhs: &mut [f64],
+    work: &mut [f64],
+) -> PipelineResult
     ensures { λ r. ⌜ ended r (now (matrix .exit)) (now (rhs .exit)) (now (work .exit)) ≡ blockedPipeline (shape .order) (shape .block) m (now (matrix .entry)) (now (rhs .entry)) (now (work .entry)) ⌝ }
 {
     rearrange::packed_to_blocked(shape, matrix, work);

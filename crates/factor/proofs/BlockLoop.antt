@@ -63,7 +63,8 @@ block-at c len′ sized same inside first =
       blockHigh = sized .blockHigh;
       inside = inside;
       first = first;
-      size = same ∙ sized .matrix }
+      size = same ∙ sized .matrix;
+    }
 
 -- where the next block column begins
 pub next-first : {n b c len : ℕ} → BlockAt n b c len → c + width n b c < n → blockOf b (c + width n b c) ≡ c + width n b c
@@ -91,10 +92,12 @@ module _
       record {
         kept = done .kept ∙ before .kept;
         reached = λ a known.
-            let now = before .reached a known in
-            (done .finished a (now .0) (now .1) passes,
-            lowest-all (judgeColumn n a) (judge-success n a) (c + width n b c)
-            (subst (λ r. T (accepted r)) (done .verdict a (now .0) (now .1)) passes)) }
+            let now = before .reached a known in (
+              done .finished a (now .0) (now .1) passes,
+              lowest-all (judgeColumn n a) (judge-success n a) (c + width n b c)
+                  (subst (λ r. T (accepted r)) (done .verdict a (now .0) (now .1)) passes),
+            );
+      }
 
   pub blocks-refused : accepted answer ≡ false → BlocksDone n b m answer m₂
   blocks-refused refused =
@@ -103,7 +106,8 @@ module _
         verdict = λ a known. verdict a known;
         columns = λ a known.
             rw (refused, place a known) (subst (λ l. FactoredTo n b a c l) (sym (done .restored refused)) (before .reached a known .0));
-        bound = λ a known. rw (refused, place a known) (omega (arith, here .inside)) }
+        bound = λ a known. rw (refused, place a known) (omega (arith, here .inside));
+      }
     where
       found : (a : Triangle) → FactoredTo n b a 0 m → answer ≡ lowestRefusal (judgeColumn n a) (c + width n b c)
       found a known = let now = before .reached a known in done .verdict a (now .0) (now .1)
@@ -112,17 +116,17 @@ module _
       verdict a known =
           let total : c + width n b c + (n - (c + width n b c)) ≡ n = omega (arith, inside-le here) in
           let stays : lowestRefusal (judgeColumn n a) (c + width n b c + (n - (c + width n b c)))
-                ≡ lowestRefusal (judgeColumn n a) (c + width n b c) =
-              lowest-stays (judgeColumn n a) (c + width n b c) (n - (c + width n b c))
-              (ap (λ r. accepted r) (sym (found a known)) ∙ refused)
+          ≡ lowestRefusal (judgeColumn n a) (c + width n b c) =
+          lowest-stays (judgeColumn n a) (c + width n b c) (n - (c + width n b c))
+          (ap (λ r. accepted r) (sym (found a known)) ∙ refused)
           in
           found a known ∙ sym (rw total at stays)
 
       place : (a : Triangle) → FactoredTo n b a 0 m → blockOf b (answer .place) ≡ c
       place a known =
           let lowest : Lowest (judgeColumn n a) (c + width n b c) (lowestRefusal (judgeColumn n a) (c + width n b c)) =
-              lowest-refused (judgeColumn n a) (c + width n b c)
-              (subst (λ x. T (not x)) (sym (ap (λ r. accepted r) (sym (found a known)) ∙ refused)) tt)
+          lowest-refused (judgeColumn n a) (c + width n b c)
+          (subst (λ x. T (not x)) (sym (ap (λ r. accepted r) (sym (found a known)) ∙ refused)) tt)
           in
           let j : ℕ = lowest .at in
           let same : answer ≡ judgeColumn n a j = found a known ∙ lowest .there in
@@ -146,7 +150,8 @@ blocks-all n b m m₁ all =
       kept = all .kept;
       verdict = λ a known. sym (all .reached a known .1);
       columns = λ a known. all .reached a known .0;
-      bound = λ a known. omega arith }
+      bound = λ a known. omega arith;
+    }
 
 -- ---- the whole call
 
@@ -158,16 +163,18 @@ unfolding columnsVerdict
 factored-matrix n b m m′ answer block size done =
     let a : Triangle = load (blockedPlace n b) (height n) n m in
     let start : FactoredTo n b a 0 m =
-        record {
-          finished = λ i j e h. absurd (omega arith);
-          entries = λ i j e h. sym (entry-load (blockedPlace n b) n m i j e) }
+    record {
+      finished = λ i j e h. absurd (omega arith);
+      entries = λ i j e h. sym (entry-load (blockedPlace n b) n m i j e);
+    }
     in
     let k : ℕ = finished Blocked n b answer in
-    let bij : Bijection (blockedPlace n b) n = blocked-bijection n b block in
-    (done .verdict a start,
-    memory-ext (blockedPlace n b) n bij m′ (store (blockedPlace n b) (columns n a k) m) (done .kept ∙ size)
-    (length-store (blockedPlace n b) n bij (columns n a k) m ∙ size)
-    (λ i j e. at a start bij i j e (decLt j k)))
+    let bij : Bijection (blockedPlace n b) n = blocked-bijection n b block in (
+      done .verdict a start,
+      memory-ext (blockedPlace n b) n bij m′ (store (blockedPlace n b) (columns n a k) m) (done .kept ∙ size)
+          (length-store (blockedPlace n b) n bij (columns n a k) m ∙ size)
+          (λ i j e. at a start bij i j e (decLt j k)),
+    )
   where
     at :
         (a : Triangle) → FactoredTo n b a 0 m → Bijection (blockedPlace n b) n → (i j : ℕ) → Entry n i j → Dec (j < finished Blocked n b answer) →
@@ -176,11 +183,11 @@ factored-matrix n b m m′ answer block size done =
         done .columns a start .finished i j e p
         ∙ entry-kept n a n (finished Blocked n b answer) i j (omega (arith, e .lower, e .inside)) p
         ∙ sym
-          (store-same (blockedPlace n b) n bij (columns n a (finished Blocked n b answer)) (finished Blocked n b answer)
-          (shaped-columns n a (finished Blocked n b answer) (done .bound a start)) m (omega arith) i j nan e p)
+        (store-same (blockedPlace n b) n bij (columns n a (finished Blocked n b answer)) (finished Blocked n b answer)
+        (shaped-columns n a (finished Blocked n b answer) (done .bound a start)) m (omega arith) i j nan e p)
     at a start bij i j e (no p) =
         done .columns a start .entries i j e (omega arith)
         ∙ sym (start .entries i j e (omega arith))
         ∙ sym
-          (store-other (blockedPlace n b) n bij (columns n a (finished Blocked n b answer)) (finished Blocked n b answer)
-          (shaped-columns n a (finished Blocked n b answer) (done .bound a start)) m (omega arith) i j nan e (omega arith))
+        (store-other (blockedPlace n b) n bij (columns n a (finished Blocked n b answer)) (finished Blocked n b answer)
+        (shaped-columns n a (finished Blocked n b answer) (done .bound a start)) m (omega arith) i j nan e (omega arith))

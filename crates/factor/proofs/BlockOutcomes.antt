@@ -40,7 +40,8 @@ module _ (n b : ℕ) (m w : List Float) (checks : CallResult) (e : checks ≡ fa
             block = checks-accepted .sizes .blockLow tt;
             blockHigh = checks-accepted .sizes .blockHigh tt;
             matrix = checks-accepted .sizes .matrix;
-            work = length-take-le needed w work-fits ∙ size }
+            work = length-take-le needed w work-fits ∙ size;
+          }
 
       pub blocks-done :
           (answer : CallResult) (m′ : List Float) → BlocksDone n b m answer m′ →
@@ -53,4 +54,5 @@ module _ (n b : ℕ) (m w : List Float) (checks : CallResult) (e : checks ≡ fa
           (record {
             result = both .0;
             matrix = both .1 ∙ ap (λ v. store (blockedPlace n b) (cholesky (height n) a (finished Blocked n b v)) m) (both .0);
-            work = ap (λ k. replicate (blockWork n b) zero64 ++ drop k w) size })
+            work = ap (λ k. replicate (blockWork n b) zero64 ++ drop k w) size;
+          })

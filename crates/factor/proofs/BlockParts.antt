@@ -48,7 +48,7 @@ pub whole-put :
     (m q : List Float) (at : ℕ) → at ≤ length m → take at m ++ (q ++ drop (length m - at) (drop at m)) ≡ take at m ++ q
 whole-put m q at room =
     let rest : drop (length m - at) (drop at m) ≡ [] =
-        ap (λ k. drop k (drop at m)) (sym (length-drop at m)) ∙ drop-length (drop at m)
+    ap (λ k. drop k (drop at m)) (sym (length-drop at m)) ∙ drop-length (drop at m)
     in
     rw rest (ap (λ l. take at m ++ l) (append-nil q))
 
@@ -111,7 +111,7 @@ module _ {n b c len : ℕ} (here : BlockAt n b c len) where
           go′ (no p) w le up = omega arith
           go′ (yes p) w le up =
               let next : blockOf b j + b ≤ c + b =
-                  block-before b (blockOf b j) (c + b) (block-of-block b j (here .block)) (block-of-next b c (here .block) (here .first)) p
+              block-before b (blockOf b j) (c + b) (block-of-block b j (here .block)) (block-of-next b c (here .block) (here .first)) p
               in
               absurd (omega arith)
 
@@ -138,12 +138,12 @@ module _
       let end : blockStart n (c + width n b c) ≡ start + rowStart (width n b c) (n - c) = block-end n c (width n b c) (inside-le here) in
       let place : start + (p - start) ≡ p = omega arith in
       let far : getD (take start m₁ ++ q) (start + (p - start)) nan ≡ getD m₁ (start + (p - start)) nan =
-          whole-after m₁ q start (p - start) start-room ∙ factored .beyond (p - start) (omega arith) ∙ part-get m₁ start (p - start)
+      whole-after m₁ q start (p - start) start-room ∙ factored .beyond (p - start) (omega arith) ∙ part-get m₁ start (p - start)
       in
       (rw place at far)
       ∙ update .outside p
-        (λ r s e z.
-        omega (arith, row-lt (width n b c) r (n - c) s (e .row) (omega (arith, e .lower, e .right))))
+      (λ r s e z.
+      omega (arith, row-lt (width n b c) r (n - c) s (e .row) (omega (arith, e .lower, e .right))))
 
   module _ (a : Triangle) (known : FactoredTo n b a c m) (first : lowestRefusal (judgeColumn n a) c ≡ success) where
     entered :
@@ -154,12 +154,12 @@ module _
         ∙ ap (λ p. getD m₁ p nan) assoc
         ∙ update .inside r s (record { lower = lower; row = omega arith; left = omega arith; right = omega arith })
         ∙ products-same (rowOf n b c m r) (λ k. factorEntry n a (c + r) k) (rowOf n b c m s) (λ k. factorEntry n a (c + s) k) c
-          (getD m (start + rowStart (width n b c) r + s) nan)
-          (λ k few. known .finished (c + r) k (record { lower = omega arith; inside = high }) few)
-          (λ k few. known .finished (c + s) k (record { lower = omega arith; inside = omega arith }) few)
+        (getD m (start + rowStart (width n b c) r + s) nan)
+        (λ k few. known .finished (c + r) k (record { lower = omega arith; inside = high }) few)
+        (λ k few. known .finished (c + s) k (record { lower = omega arith; inside = omega arith }) few)
         ∙ ap (minusProducts (λ k. factorEntry n a (c + r) k) (λ k. factorEntry n a (c + s) k) c)
-          (ap (λ p. getD m p nan) (sym (place-here here r s narrow))
-          ∙ known .entries (c + r) (c + s) (record { lower = omega arith; inside = high }) (omega arith))
+        (ap (λ p. getD m p nan) (sym (place-here here r s narrow))
+        ∙ known .entries (c + r) (c + s) (record { lower = omega arith; inside = high }) (omega arith))
 
     outcome : Judged n a c (width n b c) (width n b c) (width n b c) (width n b c) answer q
     outcome =
@@ -168,7 +168,8 @@ module _
         (record {
           finished = λ r s lower high narrow before. absurd (omega arith);
           started = λ r s lower high narrow low up. absurd (omega arith);
-          entered = λ r s lower high narrow low. entered r s lower high narrow })
+          entered = λ r s lower high narrow low. entered r s lower high narrow;
+        })
         (rw add-zero first)
 
     new-entry :
@@ -179,10 +180,10 @@ module _
         let column : c + (j - c) ≡ j = omega arith in
         let assoc : start + rowStart (width n b c) (i - c) + (j - c) ≡ start + (rowStart (width n b c) (i - c) + (j - c)) = omega arith in
         let found : getD (take start m₁ ++ q) (blockedPlace n b (c + (i - c)) (c + (j - c))) nan ≡ factorEntry n a (c + (i - c)) (c + (j - c)) =
-            ap (λ p. getD (take start m₁ ++ q) p nan) (place-here here (i - c) (j - c) (omega arith) ∙ assoc)
-            ∙ whole-after m₁ q start (rowStart (width n b c) (i - c) + (j - c)) start-room
-            ∙ outcome .stage passed .finished (i - c) (j - c) (omega (arith, e .lower)) (omega (arith, e .lower, e .inside)) (omega arith)
-              (omega arith)
+        ap (λ p. getD (take start m₁ ++ q) p nan) (place-here here (i - c) (j - c) (omega arith) ∙ assoc)
+        ∙ whole-after m₁ q start (rowStart (width n b c) (i - c) + (j - c)) start-room
+        ∙ outcome .stage passed .finished (i - c) (j - c) (omega (arith, e .lower)) (omega (arith, e .lower, e .inside)) (omega arith)
+        (omega arith)
         in
         rw (row, column) at found
 
@@ -190,11 +191,13 @@ module _
     block-finished passed =
         record {
           finished = λ i j e high.
-              elim (decLt j c)
-              [ yes p ↦ low-kept (blockedPlace n b i j) (place-before here i j e p) ∙ known .finished i j e p
-              | no p ↦ new-entry i j e (omega arith) high passed ];
+              elim (decLt j c) [
+                | yes p ↦ low-kept (blockedPlace n b i j) (place-before here i j e p) ∙ known .finished i j e p
+                | no p ↦ new-entry i j e (omega arith) high passed
+              ];
           entries = λ i j e high.
-              high-kept (blockedPlace n b i j) (place-after here i j e high) ∙ known .entries i j e (omega arith) }
+              high-kept (blockedPlace n b i j) (place-after here i j e high) ∙ known .entries i j e (omega arith);
+        }
 
   pub block-factored : BlockFactored n b c m answer (take start m₁ ++ q)
   block-factored =
@@ -205,7 +208,8 @@ module _
         before = low-kept;
         after = high-kept;
         verdict = λ a known first. outcome a known first .verdict;
-        finished = λ a known first passed. block-finished a known first passed }
+        finished = λ a known first passed. block-finished a known first passed;
+      }
 
 -- ---- entry values kept and put back
 
@@ -213,9 +217,10 @@ pub saved-next :
     (m work : List Float) (start k : ℕ) → k < length work → ((j : ℕ) → j < k → getD work j nan ≡ getD m (start + j) nan) → (j : ℕ) → j < k + 1 →
     getD (set work k (getD m (start + k) nan)) j nan ≡ getD m (start + j) nan
 saved-next m work start k room saved j h =
-    elim (decLt j k)
-    [ yes p ↦ getD-set-other work k j (getD m (start + k) nan) nan (λ z. omega arith) ∙ saved j p
-    | no p ↦ let same : j ≡ k = omega arith in rw same (getD-set-same work k (getD m (start + k) nan) nan room) ]
+    elim (decLt j k) [
+      | yes p ↦ getD-set-other work k j (getD m (start + k) nan) nan (λ z. omega arith) ∙ saved j p
+      | no p ↦ let same : j ≡ k = omega arith in rw same (getD-set-same work k (getD m (start + k) nan) nan room)
+    ]
 
 -- the kept values take at most the whole rows
 kept-le : (w h : ℕ) → w ≤ h → rowStart w h ≡ triangle w + (h - w) * w
@@ -261,8 +266,8 @@ spare-room {n} {b} {c} {len} here =
     own : 16 ≤ width n b c → 16 * (width n b c - 16) ≤ n * min n b - (blockStart n (c + width n b c) - blockStart n c)
     own wide =
         let room : 16 * (width n b c - 16)
-              ≤ (c + (width n b c + (n - c - width n b c))) * min n b - (triangle (width n b c) + (n - c - width n b c) * width n b c) =
-            room-own c (width n b c) (n - c - width n b c) (min n b) (omega (arith, width-le n b c, width-le-block n b c)) wide
+        ≤ (c + (width n b c + (n - c - width n b c))) * min n b - (triangle (width n b c) + (n - c - width n b c) * width n b c) =
+        room-own c (width n b c) (n - c - width n b c) (min n b) (omega (arith, width-le n b c, width-le-block n b c)) wide
         in
         rw size (rw total at room)
 
@@ -271,7 +276,7 @@ spare-room {n} {b} {c} {len} here =
         let before : 0 + b ≤ c = block-before b 0 c (omega (arith, block-of-le b 0)) (here .first) later in
         let least : min n b ≡ b = omega (arith, here .inside) in
         let room : 16 * b ≤ (c + (width n b c + (n - c - width n b c))) * b - (triangle (width n b c) + (n - c - width n b c) * width n b c) =
-            room-earlier c (width n b c) (n - c - width n b c) b (omega arith) (width-le-block n b c) wide
+        room-earlier c (width n b c) (n - c - width n b c) b (omega arith) (width-le-block n b c) wide
         in
         rw (size, least) (rw total at room)
 
@@ -291,7 +296,7 @@ restored {n} {b} {c} m m₁ m₂ work answer here factored saved filled =
     at p (no low) (yes inside) =
         let place : blockStart n c + (p - blockStart n c) ≡ p = omega arith in
         let value : getD m₂ (blockStart n c + (p - blockStart n c)) nan ≡ getD m (blockStart n c + (p - blockStart n c)) nan =
-            filled .inside (p - blockStart n c) (omega arith) ∙ saved (p - blockStart n c) (omega arith)
+        filled .inside (p - blockStart n c) (omega arith) ∙ saved (p - blockStart n c) (omega arith)
         in
         rw place at value
 
@@ -321,7 +326,8 @@ module _
         kept = factored .kept;
         restored = λ refused. absurd (subst (λ x. T x) (sym passed ∙ refused) tt);
         verdict = factored .verdict;
-        finished = factored .finished }
+        finished = factored .finished;
+      }
 
   pub done-refused :
       (m₂ work work′ : List Float) (start size : ℕ) → start ≡ blockStart n c → size ≡ blockStart n (c + width n b c) - blockStart n c →
@@ -334,4 +340,5 @@ module _
             restored m m₁ m₂ work′ answer here factored
             (λ k few. same k (omega arith) ∙ saved .value k (omega arith) ∙ ap (λ p. getD m (p + k) nan) es) (rw (es, ez) at filled);
         verdict = factored .verdict;
-        finished = λ a known first passed. absurd (subst (λ x. T x) refused passed) }
+        finished = λ a known first passed. absurd (subst (λ x. T x) refused passed);
+      }

@@ -43,7 +43,8 @@ module _ (c w h s0 s : ℕ) (m : List Float) where
           kept = rows .kept;
           diagonal = λ t. absurd t;
           under = λ t. absurd t;
-          outside = λ p none. rows .outside p (λ r low high. none r (omega arith) high) }
+          outside = λ p none. rows .outside p (λ r low high. none r (omega arith) high);
+        }
 
     pub column-accepted :
         s < w → w ≤ h → rowStart w h ≤ length m → UnderFinished w h s0 s d m true m₁ →
@@ -61,7 +62,8 @@ module _ (c w h s0 s : ℕ) (m : List Float) where
               ∙ (rw value at (rows .under r low high));
           outside = λ p none.
               getD-set-other m₁ (rowStart w s + s) p d nan (none s (omega arith) (omega arith))
-              ∙ rows .outside p (λ r low high. none r (omega arith) high) }
+              ∙ rows .outside p (λ r low high. none r (omega arith) high);
+        }
 
 -- the pivot as the code finds it
 pub pivot-less :

@@ -45,7 +45,7 @@ module _ {n b c len : ℕ} (here : BlockAt n b c len) (k : ℕ) (first : blockOf
       let inside : c + width n b c ≤ n = omega (arith, width-le n b c, here .inside) in
       let fits : blockStart n (k + b) ≤ blockStart n c = block-start-mono n (k + b) c next-le (omega (arith, here .inside)) in
       let room : blockStart n (c + width n b c) ≤ triangle n =
-          omega (arith, triangle-columns n, block-start-mono n (c + width n b c) n inside (omega arith))
+      omega (arith, triangle-columns n, block-start-mono n (c + width n b c) n inside (omega arith))
       in
       record {
         order = omega (arith, here .order);
@@ -56,7 +56,8 @@ module _ {n b c len : ℕ} (here : BlockAt n b c len) (k : ℕ) (first : blockOf
         rows = omega (arith, block-end n k b (omega (arith, next-le, here .inside)), block-end n c (width n b c) inside, here .size);
         columns = omega arith;
         known = omega (arith, next-le, here .inside);
-        apart = inl (omega (arith, block-end n k b (omega (arith, next-le, here .inside)))) }
+        apart = inl (omega (arith, block-end n k b (omega (arith, next-le, here .inside))));
+      }
 
   -- row r of the block column, in the block column at k
   earlier-place : (r i : ℕ) → i < b → blockedPlace n b (c + r) (k + i) ≡ blockStart n k + rowStart b (n - k - (n - c) + r) + i
@@ -65,7 +66,7 @@ module _ {n b c len : ℕ} (here : BlockAt n b c len) (k : ℕ) (first : blockOf
       let above : n - k - (n - c) + r ≡ c - k + r = omega (arith, here .inside) in
       let full : width n b k ≡ b = width-full n b k (omega (arith, next-le, here .inside)) in
       let at : blockedPlace n b (k + (c - k + r)) (k + i) ≡ blockStart n k + placeInBlock (width n b k) (c - k + r) i =
-          blocked-place-at n b k (c - k + r) i first few
+      blocked-place-at n b k (c - k + r) i first few
       in
       let at′ : blockedPlace n b (c + r) (k + i) ≡ blockStart n k + placeInBlock b (c - k + r) i = rw (row, full) at at in
       rw above (omega (arith, at′, place-in-block-row b (c - k + r) i, place-in-block-row b (c - k + r) 0))
@@ -79,10 +80,10 @@ module _ {n b c len : ℕ} (here : BlockAt n b c len) (k : ℕ) (first : blockOf
     row-known r i high few =
         let place : ℕ = blockStart n k + rowStart b (n - k - (n - c) + r) + i in
         let bound : rowStart b (n - k - (n - c) + r) + i < rowStart b (n - k) =
-            row-lt b (n - k - (n - c) + r) (n - k) i (omega (arith, here .inside)) (omega (arith, next-le, here .inside))
+        row-lt b (n - k - (n - c) + r) (n - k) i (omega (arith, here .inside)) (omega (arith, next-le, here .inside))
         in
         let fits : blockStart n k + rowStart b (n - k) ≤ blockStart n c =
-            omega (arith, block-end n k b (omega (arith, next-le, here .inside)), block-start-mono n (k + b) c next-le (omega (arith, here .inside)))
+        omega (arith, block-end n k b (omega (arith, next-le, here .inside)), block-start-mono n (k + b) c next-le (omega (arith, here .inside)))
         in
         done .outside place (λ r′ s′ e z. omega arith) ∙ ap (λ p. getD m p nan) (sym (earlier-place r i few))
 
@@ -93,13 +94,14 @@ module _ {n b c len : ℕ} (here : BlockAt n b c len) (k : ℕ) (first : blockOf
           inside = λ r s e.
               step .inside r s e
               ∙ products-same (sourceAt m₁ (blockStart n k) b (n - k - (n - c)) r) (λ i. rowOf n b c m r (k + i))
-                (sourceAt m₁ (blockStart n k) b (n - k - (n - c)) s) (λ i. rowOf n b c m s (k + i)) b
-                (getD m₁ (blockStart n c + rowStart (width n b c) r + s) nan) (λ i few. row-known r i (e .row) few)
-                (λ i few. row-known s i (omega (arith, e .lower, e .row)) few)
+              (sourceAt m₁ (blockStart n k) b (n - k - (n - c)) s) (λ i. rowOf n b c m s (k + i)) b
+              (getD m₁ (blockStart n c + rowStart (width n b c) r + s) nan) (λ i few. row-known r i (e .row) few)
+              (λ i few. row-known s i (omega (arith, e .lower, e .row)) few)
               ∙ ap (minusProducts (λ i. rowOf n b c m r (k + i)) (λ i. rowOf n b c m s (k + i)) b) (done .inside r s e)
               ∙ sym
-                (products-add (rowOf n b c m r) (rowOf n b c m s) k b (getD m (blockStart n c + rowStart (width n b c) r + s) nan));
-          outside = λ p none. step .outside p none ∙ done .outside p none }
+              (products-add (rowOf n b c m r) (rowOf n b c m s) k b (getD m (blockStart n c + rowStart (width n b c) r + s) nan));
+          outside = λ p none. step .outside p none ∙ done .outside p none;
+        }
 
 pub earlier-none : (at w h g : ℕ) (x : ℕ → ℕ → Float) (m : List Float) → PanelUpdated at w h 0 g x 0 m m
 unfolding minusProducts

@@ -48,7 +48,8 @@ under-none w s0 s diagonal m =
       kept = refl;
       judged = rw none (sym (all-tabulate-none finite (λ r. columnQuotient w s0 s m diagonal (s + 1 + r))));
       under = λ r low high. absurd (omega arith);
-      outside = λ p none. refl }
+      outside = λ p none. refl;
+    }
 
 module _
     (w r s0 s : ℕ) (diagonal : Float) (m m₁ : List Float) (ok : Bool) (before : UnderFinished w r s0 s diagonal m ok m₁) (low : s < r) (left : s0 ≤ s)
@@ -78,7 +79,7 @@ module _
       (q : Float) →
       q
       ≡ div binary64
-        (minusProducts (rowAt m₁ (rowStart w r + s0)) (rowAt m₁ (rowStart w s + s0)) (s - s0) (getD m₁ (rowStart w r + s0 + (s - s0)) nan)) diagonal →
+      (minusProducts (rowAt m₁ (rowStart w r + s0)) (rowAt m₁ (rowStart w s + s0)) (s - s0) (getD m₁ (rowStart w r + s0 + (s - s0)) nan)) diagonal →
       UnderFinished w (r + 1) s0 s diagonal m (ok && finite q) (set m₁ (rowStart w r + s0 + (s - s0)) q)
   under-next q e =
       let place : rowStart w r + s0 + (s - s0) ≡ rowStart w r + s = omega arith in
@@ -94,13 +95,15 @@ module _
             ∙ sym (all-tabulate-next finite (λ r′. columnQuotient w s0 s m diagonal (s + 1 + r′)) (r - s - 1))
             ∙ ap (λ k. all finite (tabulate k (λ r′. columnQuotient w s0 s m diagonal (s + 1 + r′)))) (sym rows);
         under = λ r′ low′ high.
-            elim (decLt r′ r)
-            [ yes p ↦
-                getD-set-other m₁ (rowStart w r + s) (rowStart w r′ + s) q nan (λ z. omega (arith, row-lt w r′ r s p (omega arith)))
-                ∙ before .under r′ low′ p
-            | no p ↦
-                let same : r′ ≡ r = omega arith in
-                rw same (getD-set-same m₁ (rowStart w r + s) q nan inside ∙ value) ];
+            elim (decLt r′ r) [
+              | yes p ↦
+                  getD-set-other m₁ (rowStart w r + s) (rowStart w r′ + s) q nan (λ z. omega (arith, row-lt w r′ r s p (omega arith)))
+                  ∙ before .under r′ low′ p
+              | no p ↦
+                  let same : r′ ≡ r = omega arith in
+                  rw same (getD-set-same m₁ (rowStart w r + s) q nan inside ∙ value)
+            ];
         outside = λ p none.
             getD-set-other m₁ (rowStart w r + s) p q nan (none r low (omega arith))
-            ∙ before .outside p (λ r′ a b. none r′ a (omega arith)) })
+            ∙ before .outside p (λ r′ a b. none r′ a (omega arith));
+      })

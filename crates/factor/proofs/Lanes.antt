@@ -26,9 +26,11 @@ lanes-next f old t lanes v before h e =
       count = length-set lanes t v ∙ before .count;
       upto = omega arith;
       new = λ u p.
-          elim (decLt u t)
-          [ yes q ↦ getD-set-other lanes t u v nan (λ z. omega arith) ∙ before .new u q
-          | no q ↦
-              let same : u ≡ t = omega arith in
-              rw same (getD-set-same lanes t v nan (omega (arith, before .count)) ∙ e) ];
-      rest = λ u p. getD-set-other lanes t u v nan (λ z. omega arith) ∙ before .rest u (omega arith) }
+          elim (decLt u t) [
+            | yes q ↦ getD-set-other lanes t u v nan (λ z. omega arith) ∙ before .new u q
+            | no q ↦
+                let same : u ≡ t = omega arith in
+                rw same (getD-set-same lanes t v nan (omega (arith, before .count)) ∙ e)
+          ];
+      rest = λ u p. getD-set-other lanes t u v nan (λ z. omega arith) ∙ before .rest u (omega arith);
+    }

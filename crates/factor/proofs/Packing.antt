@@ -23,12 +23,14 @@ lane-next t k f panel panel′ v before h room e =
     record {
       kept = length-set panel′ (16 * k + t) v ∙ before .kept;
       new = λ j p.
-          elim (decLt j k)
-          [ yes q ↦ getD-set-other panel′ (16 * k + t) (16 * j + t) v nan (λ z. omega arith) ∙ before .new j q
-          | no q ↦
-              let same : j ≡ k = omega arith in
-              rw same (getD-set-same panel′ (16 * k + t) v nan (omega (arith, before .kept)) ∙ e) ];
-      others = λ u j p ne. getD-set-other panel′ (16 * k + t) (16 * j + u) v nan (lane-apart k j t u h p ne) ∙ before .others u j p ne }
+          elim (decLt j k) [
+            | yes q ↦ getD-set-other panel′ (16 * k + t) (16 * j + t) v nan (λ z. omega arith) ∙ before .new j q
+            | no q ↦
+                let same : j ≡ k = omega arith in
+                rw same (getD-set-same panel′ (16 * k + t) v nan (omega (arith, before .kept)) ∙ e)
+          ];
+      others = λ u j p ne. getD-set-other panel′ (16 * k + t) (16 * j + u) v nan (lane-apart k j t u h p ne) ∙ before .others u j p ne;
+    }
 
 pub packed-none : (panel m : List Float) (start w first count : ℕ) → Packed panel m start w first count 0
 packed-none panel m start w first count = record { lane = λ t k h few. absurd (omega arith) }
@@ -39,6 +41,8 @@ pub packed-next :
 packed-next panel panel′ m start w first count t before h lane =
     record {
       lane = λ u k p few.
-          elim (decLt u t)
-          [ yes q ↦ lane .others u k (omega arith) (λ z. omega arith) ∙ before .lane u k q few
-          | no q ↦ let same : u ≡ t = omega arith in rw same (lane .new k few) ] }
+          elim (decLt u t) [
+            | yes q ↦ lane .others u k (omega arith) (λ z. omega arith) ∙ before .lane u k q few
+            | no q ↦ let same : u ≡ t = omega arith in rw same (lane .new k few)
+          ];
+    }

@@ -28,13 +28,15 @@ filled-next from t f m m′ v filled room e =
     record {
       kept = length-set m′ (from + t) v ∙ filled .kept;
       inside = λ u h.
-          elim (decLt u t)
-          [ yes p ↦ getD-set-other m′ (from + t) (from + u) v nan (λ q. omega arith) ∙ filled .inside u p
-          | no p ↦
-              let same : u ≡ t = omega arith in
-              rw same (getD-set-same m′ (from + t) v nan (omega (arith, filled .kept)) ∙ e) ];
+          elim (decLt u t) [
+            | yes p ↦ getD-set-other m′ (from + t) (from + u) v nan (λ q. omega arith) ∙ filled .inside u p
+            | no p ↦
+                let same : u ≡ t = omega arith in
+                rw same (getD-set-same m′ (from + t) v nan (omega (arith, filled .kept)) ∙ e)
+          ];
       before = λ p h. getD-set-other m′ (from + t) p v nan (λ q. omega arith) ∙ filled .before p h;
-      after = λ p h. getD-set-other m′ (from + t) p v nan (λ q. omega arith) ∙ filled .after p (omega arith) }
+      after = λ p h. getD-set-other m′ (from + t) p v nan (λ q. omega arith) ∙ filled .after p (omega arith);
+    }
 
 pub filled-same :
     (from count : ℕ) (f f′ : ℕ → Float) (m m′ : List Float) → ((t : ℕ) → t < count → f t ≡ f′ t) → Filled from count f m m′ → Filled from count f′ m m′
@@ -50,10 +52,10 @@ pub entries-next :
 entries-next m m′ start w first x y count t v hx hr room filled e =
     let row : ℕ = start + rowStart w (first + t) in
     let new : v ≡ minusProducts (rowAt m x) (rowAt m row) count (getD m (y + t) nan) =
-        e
-        ∙ products-same (rowAt m′ x) (rowAt m x) (rowAt m′ row) (rowAt m row) count (getD m′ (y + t) nan)
-          (λ k few. filled .before (x + k) (omega arith)) (λ k few. filled .before (row + k) (omega arith))
-        ∙ ap (minusProducts (rowAt m x) (rowAt m row) count) (filled .after (y + t) (omega arith))
+    e
+    ∙ products-same (rowAt m′ x) (rowAt m x) (rowAt m′ row) (rowAt m row) count (getD m′ (y + t) nan)
+    (λ k few. filled .before (x + k) (omega arith)) (λ k few. filled .before (row + k) (omega arith))
+    ∙ ap (minusProducts (rowAt m x) (rowAt m row) count) (filled .after (y + t) (omega arith))
     in
     filled-next y t (λ u. minusProducts (rowAt m x) (rowAt m (start + rowStart w (first + u))) count (getD m (y + u) nan)) m m′ v filled room new
 
@@ -113,7 +115,7 @@ module _ {len at w h sat sw sh s0 g count : ℕ} (source : Source len at w h sat
           let d : sh - h + r ≡ r = omega arith in
           let start : rowStart sw (sh - h + r) ≡ rowStart w r = ap₂ (λ (a b : ℕ). rowStart a b) (own .1) d in
           let same : (r ≡ r′) × (k ≡ s′) =
-              row-apart w r r′ k s′ (omega (arith, source .known, source .wide)) (omega (arith, source .wide)) (omega arith)
+          row-apart w r r′ k s′ (omega (arith, source .known, source .wide)) (omega (arith, source .wide)) (omega arith)
           in
           omega (arith, source .known, there .left)
 
@@ -128,12 +130,13 @@ module _ {len at w h sat sw sh s0 g count : ℕ} (source : Source len at w h sat
   pub pack-ready :
       (spare : ℕ) → g ≡ 16 → 16 * count ≤ spare →
       ((16 * count ≤ spare) × (sh - h + s0 + 16 ≤ maxOrder + 1)) × ((t : ℕ) → t < 16 → sat + rowStart sw (sh - h + s0 + t) + count ≤ len)
-  pack-ready spare full room =
-      (omega (arith, source .order, source .below, source .wide, source .tall),
-      (λ t few.
-      let row : sh - h + (s0 + t) ≡ sh - h + s0 + t = omega arith in
-      let same : rowStart sw (sh - h + (s0 + t)) ≡ rowStart sw (sh - h + s0 + t) = ap (rowStart sw) row in
-      omega (arith, source-room (s0 + t) (omega arith) (omega (arith, source .wide, source .tall)))))
+  pack-ready spare full room = (
+    omega (arith, source .order, source .below, source .wide, source .tall),
+    (λ t few.
+        let row : sh - h + (s0 + t) ≡ sh - h + s0 + t = omega arith in
+        let same : rowStart sw (sh - h + (s0 + t)) ≡ rowStart sw (sh - h + s0 + t) = ap (rowStart sw) row in
+        omega (arith, source-room (s0 + t) (omega arith) (omega (arith, source .wide, source .tall)))),
+  )
 
 -- ---- a panel, row by row
 
@@ -159,7 +162,7 @@ module _
       before .outside (at + rowStart w r + s)
       (λ r′ s′ e p.
       let same : (r ≡ r′) × (s ≡ s′) =
-          row-apart w r r′ s s′ (omega (arith, source .wide)) (omega (arith, source .wide, e .lower, e .right)) (omega arith)
+      row-apart w r r′ s s′ (omega (arith, source .wide)) (omega (arith, source .wide, e .lower, e .right)) (omega arith)
       in
       omega (arith, e .row))
 
@@ -171,25 +174,30 @@ module _
       ((sat + rowStart sw (sh - h + r) + count ≤ y) × (y + l ≤ length m₁) × (sh - h + s0 + l ≤ maxOrder + 1))
       × (((t : ℕ) → t < l → sat + rowStart sw (sh - h + s0 + t) + count ≤ y)
       × (l ≡ 16 → (16 * count ≤ length panel) × Packed panel m₁ sat sw (sh - h + s0) count 16))
-  row-ready panel y l narrow packed ey el =
-      (omega (arith, source-before source r r low (le-refl r) high, row-room source r low high, before .kept, source .order, source .below),
-      ((λ t few.
-      let row : sh - h + (s0 + t) ≡ sh - h + s0 + t = omega arith in
-      let bound : sat + rowStart sw (sh - h + (s0 + t)) + count ≤ at + rowStart w r + s0 =
+  row-ready panel y l narrow packed ey el = (
+    omega (arith, source-before source r r low (le-refl r) high, row-room source r low high, before .kept, source .order, source .below),
+    (
+      (λ t few.
+          let row : sh - h + (s0 + t) ≡ sh - h + s0 + t = omega arith in
+          let bound : sat + rowStart sw (sh - h + (s0 + t)) + count ≤ at + rowStart w r + s0 =
           source-before source r (s0 + t) (omega arith) (omega arith) high
-      in
-      let same : rowStart sw (sh - h + (s0 + t)) ≡ rowStart sw (sh - h + s0 + t) = ap (rowStart sw) row in
-      omega arith),
+          in
+          let same : rowStart sw (sh - h + (s0 + t)) ≡ rowStart sw (sh - h + s0 + t) = ap (rowStart sw) row in
+          omega arith),
       (λ full.
-      let whole : g ≡ 16 = omega arith in
-      (packed whole .0,
-      record {
-        lane = λ t k few p.
-            let row : sh - h + (s0 + t) ≡ sh - h + s0 + t = omega arith in
-            let kept : rowAt m₁ (sat + rowStart sw (sh - h + (s0 + t))) k ≡ rowAt m (sat + rowStart sw (sh - h + (s0 + t))) k =
-                source-kept (s0 + t) k (omega arith) (omega (arith, source .wide, source .tall)) p
-            in
-            packed whole .1 .lane t k few p ∙ sym (rw row at kept) }))))
+          let whole : g ≡ 16 = omega arith in (
+            packed whole .0,
+            record {
+              lane = λ t k few p.
+                  let row : sh - h + (s0 + t) ≡ sh - h + s0 + t = omega arith in
+                  let kept : rowAt m₁ (sat + rowStart sw (sh - h + (s0 + t))) k ≡ rowAt m (sat + rowStart sw (sh - h + (s0 + t))) k =
+                  source-kept (s0 + t) k (omega arith) (omega (arith, source .wide, source .tall)) p
+                  in
+                  packed whole .1 .lane t k few p ∙ sym (rw row at kept);
+            },
+          )),
+    ),
+  )
 
   module _
       (filled :
@@ -205,13 +213,13 @@ module _
         let place : at + rowStart w r + s0 + (s - s0) ≡ at + rowStart w r + s = omega arith in
         let row : sh - h + s0 + (s - s0) ≡ sh - h + s = omega arith in
         let new : getD m₂ (at + rowStart w r + s0 + (s - s0)) nan
-              ≡ minusProducts (rowAt m₁ (sat + rowStart sw (sh - h + r))) (rowAt m₁ (sat + rowStart sw (sh - h + s0 + (s - s0)))) count
-                (getD m₁ (at + rowStart w r + s0 + (s - s0)) nan) =
-            filled .inside (s - s0) (omega arith)
+        ≡ minusProducts (rowAt m₁ (sat + rowStart sw (sh - h + r))) (rowAt m₁ (sat + rowStart sw (sh - h + s0 + (s - s0)))) count
+        (getD m₁ (at + rowStart w r + s0 + (s - s0)) nan) =
+        filled .inside (s - s0) (omega arith)
         in
         (rw (place, row) at new)
         ∙ products-same (rowAt m₁ (sat + rowStart sw (sh - h + r))) (x r) (rowAt m₁ (sat + rowStart sw (sh - h + s))) (x s) count
-          (getD m₁ (at + rowStart w r + s) nan) (λ k few. source-kept r k low high few) (λ k few. source-kept s k left (omega arith) few)
+        (getD m₁ (at + rowStart w r + s) nan) (λ k few. source-kept r k low high few) (λ k few. source-kept s k left (omega arith) few)
         ∙ ap (minusProducts (x r) (x s) count) (row-kept s lower right)
 
     pub panel-next : PanelUpdated at w (r + 1) s0 g x count m m₂
@@ -219,16 +227,18 @@ module _
         record {
           kept = filled .kept ∙ before .kept;
           inside = λ r′ s′ e.
-              elim (decLt r′ r)
-              [ yes p ↦
-                  filled .before (at + rowStart w r′ + s′) (omega (arith, row-lt w r′ r s′ p (omega (arith, source .wide, e .lower, e .right))))
-                  ∙ before .inside r′ s′ (record { lower = e .lower; row = p; left = e .left; right = e .right })
-              | no p ↦
-                  let same : r′ ≡ r = omega (arith, e .row) in
-                  rw same (entry-updated s′ (omega (arith, e .lower)) (e .left) (e .right)) ];
+              elim (decLt r′ r) [
+                | yes p ↦
+                    filled .before (at + rowStart w r′ + s′) (omega (arith, row-lt w r′ r s′ p (omega (arith, source .wide, e .lower, e .right))))
+                    ∙ before .inside r′ s′ (record { lower = e .lower; row = p; left = e .left; right = e .right })
+                | no p ↦
+                    let same : r′ ≡ r = omega (arith, e .row) in
+                    rw same (entry-updated s′ (omega (arith, e .lower)) (e .left) (e .right))
+              ];
           outside = λ p none.
               outside-row p none (decLt p (at + rowStart w r + s0)) (decLt p (at + rowStart w r + s0 + min g (r + 1 - s0)))
-              ∙ before .outside p (λ r′ s′ e. none r′ s′ (record { lower = e .lower; row = omega (arith, e .row); left = e .left; right = e .right })) }
+              ∙ before .outside p (λ r′ s′ e. none r′ s′ (record { lower = e .lower; row = omega (arith, e .row); left = e .left; right = e .right }));
+        }
       where
         outside-row :
             (p : ℕ) → ((r′ s′ : ℕ) → InPanel (r + 1) s0 g r′ s′ → p ≢ at + rowStart w r′ + s′) → Dec (p < at + rowStart w r + s0) →
@@ -254,7 +264,8 @@ source-part s0 g source wide =
       rows = source .rows;
       columns = source .columns;
       known = omega (arith, source .known);
-      apart = source .apart }
+      apart = source .apart;
+    }
 
 pub columns-none : (at w h : ℕ) (x : ℕ → ℕ → Float) (count : ℕ) (m : List Float) → PanelUpdated at w h 0 0 x count m m
 columns-none at w h x count m =
@@ -288,11 +299,11 @@ module _
   columns-inside r s e (no right) =
       after .inside r s (record { lower = e .lower; row = e .row; left = omega arith; right = omega (arith, e .right) })
       ∙ products-same (sourceAt m₁ sat sw (sh - h) r) (y r) (sourceAt m₁ sat sw (sh - h) s) (y s) count (getD m₁ (at + rowStart w r + s) nan)
-        (λ k few. columns-source r k (e .row) few) (λ k few. columns-source s k (omega (arith, e .lower, e .row)) few)
+      (λ k few. columns-source r k (e .row) few) (λ k few. columns-source s k (omega (arith, e .lower, e .row)) few)
       ∙ ap (minusProducts (y r) (y s) count)
-        (before .outside (at + rowStart w r + s)
-        (λ r′ s′ e′.
-        columns-apart r s r′ s′ (e .lower) (omega (arith, e .right)) (e′ .lower) (omega (arith, e′ .right)) (λ z. omega (arith, e′ .right))))
+      (before .outside (at + rowStart w r + s)
+      (λ r′ s′ e′.
+      columns-apart r s r′ s′ (e .lower) (omega (arith, e .right)) (e′ .lower) (omega (arith, e′ .right)) (λ z. omega (arith, e′ .right))))
 
   pub columns-next : PanelUpdated at w h 0 (s0 + g) y count m m₂
   columns-next =
@@ -303,7 +314,8 @@ module _
             after .outside p
             (λ r s e. none r s (record { lower = e .lower; row = e .row; left = omega arith; right = omega (arith, e .right) }))
             ∙ before .outside p
-              (λ r s e. none r s (record { lower = e .lower; row = e .row; left = omega arith; right = omega (arith, e .right) })) }
+            (λ r s e. none r s (record { lower = e .lower; row = e .row; left = omega arith; right = omega (arith, e .right) }));
+      }
 
 -- ---- the block column's own earlier columns
 
@@ -318,4 +330,5 @@ own-source len w h s0 g wide tall order room =
       rows = omega arith;
       columns = omega arith;
       known = omega arith;
-      apart = inr (refl, refl, refl) }
+      apart = inr (refl, refl, refl);
+    }

@@ -59,11 +59,13 @@ module _
         run = λ n a order stage first.
             let now = before .run n a order stage first in
             let same : answer ≡ judgeColumn n a (c + s) = column-judged n a c w h s0 e s m₁ (now .0) order left right narrow tall answer m₂ column in
-            let assoc : c + (s + 1) ≡ c + s + 1 = omega arith in
-            (column-stage n a c w h s0 e s m₁ (now .0) order left right narrow tall answer m₂ column (is-true passed),
-            rw assoc
-            (lowest-next (judgeColumn n a) (c + s) (now .1)
-            ∙ judge-success n a (c + s) (subst (λ r. T (accepted r)) same (is-true passed)))) }
+            let assoc : c + (s + 1) ≡ c + s + 1 = omega arith in (
+              column-stage n a c w h s0 e s m₁ (now .0) order left right narrow tall answer m₂ column (is-true passed),
+              rw assoc
+                  (lowest-next (judgeColumn n a) (c + s) (now .1)
+                  ∙ judge-success n a (c + s) (subst (λ r. T (accepted r)) same (is-true passed))),
+            );
+      }
 
   pub finished-refused : accepted answer ≡ false → PanelFinished c w h s0 e m answer m₂
   finished-refused refused =
@@ -77,7 +79,9 @@ module _
               verdict =
                   same
                   ∙ sym (lowest-found (judgeColumn n a) (c + s) (c + e) (omega arith) (now .1) (ap (λ r. accepted r) (sym same) ∙ refused));
-              stage = λ t. absurd (not-true refused t) } }
+              stage = λ t. absurd (not-true refused t);
+            };
+      }
 
 pub finished-all :
     (c w h s0 e : ℕ) (m m₁ : List Float) → Running c w h (PanelStage c w s0 e s0 m) (PanelStage c w s0 e e m₁) s0 e m m₁ →
@@ -88,7 +92,8 @@ finished-all c w h s0 e m m₁ run =
       beyond = run .beyond;
       judged = λ n a order stage first.
           let now = run .run n a order stage first in
-          record { verdict = sym (now .1); stage = λ t. now .0 } }
+          record { verdict = sym (now .1); stage = λ t. now .0 };
+    }
 
 -- ---- a panel
 
@@ -102,11 +107,12 @@ panel-factored c w h s0 g m m₁ m₂ answer wide tall update finished =
       beyond = λ p far.
           finished .beyond p far
           ∙ update .outside p
-            (λ r s there z.
-            omega (arith, row-lt w r h s (there .row) (omega (arith, there .lower, there .right))));
+          (λ r s there z.
+          omega (arith, row-lt w r h s (there .row) (omega (arith, there .lower, there .right))));
       judged = λ n a order stage first.
           let now = finished .judged n a order (stage-updated n a c w h s0 g m m₁ order wide tall stage update) first in
-          record { verdict = now .verdict; stage = λ t. stage-all n a c w s0 (s0 + g) m₂ (now .stage t) } }
+          record { verdict = now .verdict; stage = λ t. stage-all n a c w s0 (s0 + g) m₂ (now .stage t) };
+    }
 
 -- ---- panels of a block column
 
@@ -126,9 +132,11 @@ module _
         beyond = panel-beyond;
         run = λ n a order stage first.
             let now = before .run n a order stage first in
-            let after = panel .judged n a order (now .0) (now .1) in
-            (after .stage (is-true passed),
-            lowest-accepted-success n a (c + to) (subst (λ r. T (accepted r)) (after .verdict) (is-true passed))) }
+            let after = panel .judged n a order (now .0) (now .1) in (
+              after .stage (is-true passed),
+              lowest-accepted-success n a (c + to) (subst (λ r. T (accepted r)) (after .verdict) (is-true passed)),
+            );
+      }
     where
       lowest-accepted-success : (n : ℕ) (a : Triangle) (k : ℕ) → T (accepted (lowestRefusal (judgeColumn n a) k)) → lowestRefusal (judgeColumn n a) k ≡ success
       lowest-accepted-success n a k t = lowest-all (judgeColumn n a) (judge-success n a) k t
@@ -143,9 +151,10 @@ module _
             let after = panel .judged n a order (now .0) (now .1) in
             let place : c + to + (w - to) ≡ c + w = omega arith in
             let stays : lowestRefusal (judgeColumn n a) (c + to + (w - to)) ≡ lowestRefusal (judgeColumn n a) (c + to) =
-                lowest-stays (judgeColumn n a) (c + to) (w - to) (ap (λ r. accepted r) (sym (after .verdict)) ∙ refused)
+            lowest-stays (judgeColumn n a) (c + to) (w - to) (ap (λ r. accepted r) (sym (after .verdict)) ∙ refused)
             in
-            record { verdict = after .verdict ∙ sym (rw place at stays); stage = λ t. absurd (not-true refused t) } }
+            record { verdict = after .verdict ∙ sym (rw place at stays); stage = λ t. absurd (not-true refused t) };
+      }
 
 pub factored-all :
     (c w h : ℕ) (m m₁ : List Float) → Running c w h (ColumnsStage c w 0 m) (ColumnsStage c w w m₁) 0 w m m₁ → ColumnsFactored c w h 0 w m success m₁
@@ -155,4 +164,5 @@ factored-all c w h m m₁ run =
       beyond = run .beyond;
       judged = λ n a order stage first.
           let now = run .run n a order stage first in
-          record { verdict = sym (now .1); stage = λ t. now .0 } }
+          record { verdict = sym (now .1); stage = λ t. now .0 };
+    }

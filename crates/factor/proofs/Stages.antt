@@ -45,7 +45,7 @@ module _
       (λ i. factorEntry n a (c + s) (c + s0 + i)) (s - s0) (getD m (rowStart w r + s) nan) (λ k few. known r k lower high few)
       (λ k few. known s k (omega arith) (omega arith) few)
       ∙ ap (minusProducts (λ i. factorEntry n a (c + r) (c + s0 + i)) (λ i. factorEntry n a (c + s) (c + s0 + i)) (s - s0))
-        (stage .started r s lower (omega arith) (omega arith) (omega arith) right)
+      (stage .started r s lower (omega arith) (omega arith) (omega arith) right)
       ∙ sym (products-add (λ q. factorEntry n a (c + r) q) (λ q. factorEntry n a (c + s) q) (c + s0) (s - s0) (entry a (c + r) (c + s)))
       ∙ ap (λ k. lessProducts n a k (c + r) (c + s)) total
     where
@@ -86,9 +86,9 @@ module _
       let row : c + (s + 1 + r) ≡ c + s + 1 + r = omega arith in
       getD-tabulate (λ r′. quotient a (columns n a (c + s)) d (c + s) (c + s + 1 + r′)) (h - s - 1) r nan few
       ∙ sym
-        (ap (λ x. columnQuotient w s0 s m x (s + 1 + r)) column-root
-        ∙ column-quotient d (s + 1 + r) (omega arith) (omega arith)
-        ∙ ap (quotient a (columns n a (c + s)) d (c + s)) row)))
+      (ap (λ x. columnQuotient w s0 s m x (s + 1 + r)) column-root
+      ∙ column-quotient d (s + 1 + r) (omega arith) (omega arith)
+      ∙ ap (quotient a (columns n a (c + s)) d (c + s)) row)))
 
   pub column-judged : (answer : CallResult) (m′ : List Float) → ColumnFinished c w h s0 s m answer m′ → answer ≡ judgeColumn n a (c + s)
   unfolding columnRules
@@ -115,15 +115,17 @@ module _
     column-stage =
         record {
           finished = λ r s′ lower high narrow′ before.
-              elim (decLt s′ s)
-              [ yes p ↦ column-other r s′ lower high narrow′ (λ z. omega arith) ∙ stage .finished r s′ lower high narrow′ p
-              | no p ↦
-                  let same : s′ ≡ s = omega arith in
-                  rw same (column-new r (omega arith) (omega arith) (decLt s r)) ];
+              elim (decLt s′ s) [
+                | yes p ↦ column-other r s′ lower high narrow′ (λ z. omega arith) ∙ stage .finished r s′ lower high narrow′ p
+                | no p ↦
+                    let same : s′ ≡ s = omega arith in
+                    rw same (column-new r (omega arith) (omega arith) (decLt s r))
+              ];
           started = λ r s′ lower high narrow′ low up.
               column-other r s′ lower high narrow′ (λ z. omega arith) ∙ stage .started r s′ lower high narrow′ (omega arith) up;
           entered = λ r s′ lower high narrow′ low.
-              column-other r s′ lower high narrow′ (λ z. omega arith) ∙ stage .entered r s′ lower high narrow′ low }
+              column-other r s′ lower high narrow′ (λ z. omega arith) ∙ stage .entered r s′ lower high narrow′ low;
+        }
 
 -- ---- the own products of a panel
 
@@ -138,13 +140,14 @@ stage-updated n a c w h s0 g m m′ order wide tall stage update =
           let place : 0 + rowStart w r + s ≡ rowStart w r + s = omega arith in
           (rw place at (update .inside r s (record { lower = lower; row = omega arith; left = low; right = up })))
           ∙ products-same (sourceAt m 0 w (h - h) r) (λ i. factorEntry n a (c + r) (c + i)) (sourceAt m 0 w (h - h) s)
-            (λ i. factorEntry n a (c + s) (c + i)) s0 (getD m (rowStart w r + s) nan) (λ k few. known r k high (omega arith) few)
-            (λ k few. known s k (omega arith) low few)
+          (λ i. factorEntry n a (c + s) (c + i)) s0 (getD m (rowStart w r + s) nan) (λ k few. known r k high (omega arith) few)
+          (λ k few. known s k (omega arith) low few)
           ∙ ap (minusProducts (λ i. factorEntry n a (c + r) (c + i)) (λ i. factorEntry n a (c + s) (c + i)) s0)
-            (stage .entered r s lower high narrow low)
+          (stage .entered r s lower high narrow low)
           ∙ sym (products-add (λ q. factorEntry n a (c + r) q) (λ q. factorEntry n a (c + s) q) c s0 (entry a (c + r) (c + s)));
       entered = λ r s lower high narrow low.
-          other r s lower narrow (λ z. omega arith) ∙ stage .entered r s lower high narrow (omega arith) }
+          other r s lower narrow (λ z. omega arith) ∙ stage .entered r s lower high narrow (omega arith);
+    }
   where
     other : (r s : ℕ) → s ≤ r → s < w → ((s0 ≤ s) × (s < s0 + g) → ⊥) → getD m′ (rowStart w r + s) nan ≡ getD m (rowStart w r + s) nan
     other r s lower narrow out =
@@ -164,4 +167,5 @@ stage-all n a c w s0 e m stage =
     record {
       finished = stage .finished;
       started = λ r s lower high narrow low up. absurd (omega arith);
-      entered = stage .entered }
+      entered = stage .entered;
+    }

@@ -107,8 +107,8 @@ pub record ColumnFinished (c w h s0 s : ℕ) (m : List Float) (answer : CallResu
   pub result :
       answer
       ≡ firstRefusal
-        (rule10 (c + s) (judged (lessPanel w s0 s m s))
-        ∷ rule11 (c + s) (columnUnder w s0 s m (columnRoot w s0 s m) h) ∷ [])
+      (rule10 (c + s) (judged (lessPanel w s0 s m s))
+      ∷ rule11 (c + s) (columnUnder w s0 s m (columnRoot w s0 s m) h) ∷ [])
   pub kept : length m′ ≡ length m
   pub diagonal : T (accepted answer) → getD m′ (rowStart w s + s) nan ≡ columnRoot w s0 s m
   pub under :

@@ -10,12 +10,15 @@ ghost use Rattle.calls.specs.Calls.{DoneAs, factorize};
 ghost use Rattle.factor.specs.BlockColumns.{Filled, rowStart, lessPanel, columnQuotient, ColumnFinished, UnderFinished, PanelUpdated};
 ghost use Rattle.factor.specs.BlockStages.{PanelFinished, ColumnsFactored};
 ghost use Rattle.factor.specs.BlockSteps.{BlockAt, SpareRoom, BlockFactored, BlockDone, Saved, Sized, BlocksDone, rowOf};
-
-use binary64::Pivot;
-use calls::{CallResult, Layout};
-use shape::Shape;
-use crate::blocked_update::{BlockColumn, least, update_block, update_panel};
+use crate::blocked_update::BlockColumn;
+use crate::blocked_update::least;
+use crate::blocked_update::update_block;
+use crate::blocked_update::update_panel;
 use crate::kernel::minus_products;
+use binary64::Pivot;
+use calls::CallResult;
+use calls::Layout;
+use shape::Shape;
 
 // Rows under the diagonal of column s, each less its products with columns s0 .. s − 1 and divided by the root. True where all are finite.
 fn finish_rows(part: &mut [f64], width: usize, rows: usize, s0: usize, s: usize, root: f64) -> bool
@@ -37,7 +40,14 @@ fn finish_rows(part: &mut [f64], width: usize, rows: usize, s0: usize, s: usize,
 }
 
 // Column s, which is column c + s of the matrix: columns 0 .. s0 − 1 of the block column are subtracted from it already. The diagonal is set last.
-fn finish_column(part: &mut [f64], c: usize, width: usize, rows: usize, s0: usize, s: usize) -> CallResult
+fn finish_column(
+    part: &mut [f64],
+    c: usize,
+    width: usize,
+    rows: usize,
+    s0: usize,
+    s: usize,
+) -> CallResult
     requires { ⌜ (s0 ≤ s) × (s < width) × (width ≤ rows) × (c + rows ≤ maxOrder) × (rowStart width rows ≤ length (now part)) ⌝ }
     ensures { λ r. ⌜ ColumnFinished c width rows s0 s (now (part .entry)) r (now (part .exit)) ⌝ }
 {
@@ -45,20 +55,39 @@ fn finish_column(part: &mut [f64], c: usize, width: usize, rows: usize, s0: usiz
     let count = s - s0;
     let pivot = minus_products(part, y, y, count, part[y + count]);
     match binary64::judge(pivot) {
-        Pivot::Refused(value) => CallResult { code: 10, place: c + s, value },
+        Pivot::Refused(value) => CallResult {
+            code: 10,
+            place: c + s,
+            value,
+        },
         Pivot::Root(root) => {
             if finish_rows(part, width, rows, s0, s, root) {
                 part[y + count] = root;
-                CallResult { code: 0, place: 0, value: 0.0 }
+                CallResult {
+                    code: 0,
+                    place: 0,
+                    value: 0.0,
+                }
             } else {
-                CallResult { code: 11, place: c + s, value: 0.0 }
+                CallResult {
+                    code: 11,
+                    place: c + s,
+                    value: 0.0,
+                }
             }
         }
     }
 }
 
 // Columns s0 .. e − 1, up to the first that is refused.
-fn finish_panel(part: &mut [f64], c: usize, width: usize, rows: usize, s0: usize, e: usize) -> CallResult
+fn finish_panel(
+    part: &mut [f64],
+    c: usize,
+    width: usize,
+    rows: usize,
+    s0: usize,
+    e: usize,
+) -> CallResult
     requires { ⌜ (s0 ≤ e) × (e ≤ width) × (width ≤ rows) × (c + rows ≤ maxOrder) × (rowStart width rows ≤ length (now part)) ⌝ }
     ensures { λ r. ⌜ PanelFinished c width rows s0 e (now (part .entry)) r (now (part .exit)) ⌝ }
 {
@@ -74,7 +103,15 @@ fn finish_panel(part: &mut [f64], c: usize, width: usize, rows: usize, s0: usize
 }
 
 // The g columns from s0 on: less the products of the block column's own earlier columns, then finished.
-fn factor_panel(part: &mut [f64], spare: &mut [f64], c: usize, width: usize, rows: usize, s0: usize, g: usize) -> CallResult
+fn factor_panel(
+    part: &mut [f64],
+    spare: &mut [f64],
+    c: usize,
+    width: usize,
+    rows: usize,
+    s0: usize,
+    g: usize,
+) -> CallResult
     requires { ⌜ (s0 + g ≤ width) × (width ≤ rows) × (c + rows ≤ maxOrder) × (rowStart width rows ≤ length (now part)) ⌝ }
     requires { ⌜ (g ≤ 16) × (g ≡ 16 → 16 * s0 ≤ length (now spare)) ⌝ }
     ensures { λ r. ⌜ ColumnsFactored c width rows s0 (s0 + g) (now (part .entry)) r (now (part .exit)) ⌝ }
@@ -89,7 +126,13 @@ fn factor_panel(part: &mut [f64], spare: &mut [f64], c: usize, width: usize, row
 }
 
 // The block column that begins with column c, from the memory's start on, less the products of the columns before c already: panel by panel.
-fn factor_block(part: &mut [f64], spare: &mut [f64], c: usize, width: usize, rows: usize) -> CallResult
+fn factor_block(
+    part: &mut [f64],
+    spare: &mut [f64],
+    c: usize,
+    width: usize,
+    rows: usize,
+) -> CallResult
     requires { ⌜ (width ≤ rows) × (c + rows ≤ maxOrder) × (rowStart width rows ≤ length (now part)) ⌝ }
     requires { ⌜ (16 ≤ width → 16 * (width - 16) ≤ length (now spare)) ⌝ }
     ensures { λ r. ⌜ ColumnsFactored c width rows 0 width (now (part .entry)) r (now (part .exit)) ⌝ }
@@ -110,11 +153,9 @@ fn factor_block(part: &mut [f64], spare: &mut [f64], c: usize, width: usize, row
 fn update_by_all(m: &mut [f64], spare: &mut [f64], shape: Shape, c: usize)
     requires { ⌜ BlockAt (shape .order) (shape .block) c (length (now m)) ⌝ }
     requires { ⌜ (0 < c → 16 ≤ width (shape .order) (shape .block) c → 16 * shape .block ≤ length (now spare)) ⌝ }
-    ensures {
-        λ r.
+    ensures { λ r.
         ⌜ PanelUpdated (blockStart (shape .order) c) (width (shape .order) (shape .block) c) (shape .order - c) 0
-          (width (shape .order) (shape .block) c) (rowOf (shape .order) (shape .block) c (now (m .entry))) c (now (m .entry)) (now (m .exit)) ⌝
-    }
+        (width (shape .order) (shape .block) c) (rowOf (shape .order) (shape .block) c (now (m .entry))) c (now (m .entry)) (now (m .exit)) ⌝ }
 {
     let order = shape.order;
     let block = shape.block;
@@ -228,11 +269,9 @@ fn factor_blocks_cleared(m: &mut [f64], work: &mut [f64], shape: Shape) -> CallR
 
 // The blocked factor of memory in blocked order.
 pub fn factor_blocked(shape: Shape, matrix: &mut [f64], work: &mut [f64]) -> CallResult
-    ensures {
-        λ r.
+    ensures { λ r.
         ⌜ DoneAs (factorize Layout.Blocked (shape .order) (shape .block) (now (matrix .entry)) (now (work .entry))) r (now (matrix .exit))
-          (now (work .exit)) ⌝
-    }
+        (now (work .exit)) ⌝ }
 {
     let checks = calls::check_factor(Layout::Blocked, shape, matrix, work.len());
     if !calls::accepted(checks) {

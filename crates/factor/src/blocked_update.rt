@@ -7,8 +7,9 @@ ghost use lib.Ieee.{nan};
 ghost use Rattle.shape.specs.Bounds.{maxOrder};
 ghost use Rattle.calls.specs.Arithmetic.{minusProducts};
 ghost use Rattle.factor.specs.BlockColumns.{rowStart, rowAt, sourceAt, Filled, Packed, PanelUpdated, Source};
-
-use crate::kernel::{minus_products, pack_lane, update16};
+use crate::kernel::minus_products;
+use crate::kernel::pack_lane;
+use crate::kernel::update16;
 use shape::Shape;
 
 // The columns of a panel that the kernel works on at once.
@@ -30,17 +31,23 @@ pub fn least(a: usize, b: usize) -> usize
 
 // The entries from place y on, each less its products with a row of the source: the first is row `first`. The values from place x on are
 // the other factors.
-fn update_entries(m: &mut [f64], source: BlockColumn, first: usize, x: usize, y: usize, len: usize, count: usize)
+fn update_entries(
+    m: &mut [f64],
+    source: BlockColumn,
+    first: usize,
+    x: usize,
+    y: usize,
+    len: usize,
+    count: usize,
+)
     requires { ⌜ (x + count ≤ y) × (y + len ≤ length (now m)) × (first + len ≤ maxOrder + 1) ⌝ }
     requires { ⌜ ((t : ℕ) → t < len → source .start + rowStart (source .width) (first + t) + count ≤ y) ⌝ }
-    ensures {
-        λ r.
+    ensures { λ r.
         ⌜ Filled y len
-          (λ t.
-          minusProducts (rowAt (now (m .entry)) x) (rowAt (now (m .entry)) (source .start + rowStart (source .width) (first + t))) count
-          (getD (now (m .entry)) (y + t) nan))
-          (now (m .entry)) (now (m .exit)) ⌝
-    }
+        (λ t.
+        minusProducts (rowAt (now (m .entry)) x) (rowAt (now (m .entry)) (source .start + rowStart (source .width) (first + t))) count
+        (getD (now (m .entry)) (y + t) nan))
+        (now (m .entry)) (now (m .exit)) ⌝ }
 {
     let start = source.start;
     let width = source.width;
@@ -70,20 +77,25 @@ fn pack(panel: &mut [f64], m: &[f64], source: BlockColumn, first: usize, count: 
 }
 
 // As `update_entries`; where the row has all of a panel's 16 columns, by the packed panel.
-fn update_row(m: &mut [f64], panel: &[f64], source: BlockColumn, first: usize, x: usize, y: usize, len: usize, count: usize)
+fn update_row(
+    m: &mut [f64],
+    panel: &[f64],
+    source: BlockColumn,
+    first: usize,
+    x: usize,
+    y: usize,
+    len: usize,
+    count: usize,
+)
     requires { ⌜ (x + count ≤ y) × (y + len ≤ length (now m)) × (first + len ≤ maxOrder + 1) ⌝ }
     requires { ⌜ ((t : ℕ) → t < len → source .start + rowStart (source .width) (first + t) + count ≤ y) ⌝ }
-    requires {
-        ⌜ (len ≡ 16 → (16 * count ≤ length (now panel)) × Packed (now panel) (now m) (source .start) (source .width) first count 16) ⌝
-    }
-    ensures {
-        λ r.
+    requires { ⌜ (len ≡ 16 → (16 * count ≤ length (now panel)) × Packed (now panel) (now m) (source .start) (source .width) first count 16) ⌝ }
+    ensures { λ r.
         ⌜ Filled y len
-          (λ t.
-          minusProducts (rowAt (now (m .entry)) x) (rowAt (now (m .entry)) (source .start + rowStart (source .width) (first + t))) count
-          (getD (now (m .entry)) (y + t) nan))
-          (now (m .entry)) (now (m .exit)) ⌝
-    }
+        (λ t.
+        minusProducts (rowAt (now (m .entry)) x) (rowAt (now (m .entry)) (source .start + rowStart (source .width) (first + t))) count
+        (getD (now (m .entry)) (y + t) nan))
+        (now (m .entry)) (now (m .exit)) ⌝ }
 {
     if len == 16 {
         update16(m, panel, x, y, count);
@@ -93,21 +105,23 @@ fn update_row(m: &mut [f64], panel: &[f64], source: BlockColumn, first: usize, x
 }
 
 // The columns of a panel, row by row.
-fn update_rows(m: &mut [f64], panel: &[f64], target: BlockColumn, source: BlockColumn, s0: usize, g: usize, count: usize)
-    requires {
-        ⌜ Source (length (now m)) (target .start) (target .width) (target .rows) (source .start) (source .width) (source .rows) s0 g count ⌝
-    }
-    requires {
-        ⌜ (g ≤ 16)
-          × (g ≡ 16 →
-          (16 * count ≤ length (now panel))
-          × Packed (now panel) (now m) (source .start) (source .width) (source .rows - target .rows + s0) count 16) ⌝
-    }
-    ensures {
-        λ r.
+fn update_rows(
+    m: &mut [f64],
+    panel: &[f64],
+    target: BlockColumn,
+    source: BlockColumn,
+    s0: usize,
+    g: usize,
+    count: usize,
+)
+    requires { ⌜ Source (length (now m)) (target .start) (target .width) (target .rows) (source .start) (source .width) (source .rows) s0 g count ⌝ }
+    requires { ⌜ (g ≤ 16)
+        × (g ≡ 16 →
+        (16 * count ≤ length (now panel))
+        × Packed (now panel) (now m) (source .start) (source .width) (source .rows - target .rows + s0) count 16) ⌝ }
+    ensures { λ r.
         ⌜ PanelUpdated (target .start) (target .width) (target .rows) s0 g
-          (sourceAt (now (m .entry)) (source .start) (source .width) (source .rows - target .rows)) count (now (m .entry)) (now (m .exit)) ⌝
-    }
+        (sourceAt (now (m .entry)) (source .start) (source .width) (source .rows - target .rows)) count (now (m .entry)) (now (m .exit)) ⌝ }
 {
     let above = source.rows - target.rows;
     let mut r = s0;
@@ -121,16 +135,20 @@ fn update_rows(m: &mut [f64], panel: &[f64], target: BlockColumn, source: BlockC
 }
 
 // The g columns from s0 on, less `count` products each; `spare` is overwritten.
-pub fn update_panel(m: &mut [f64], spare: &mut [f64], target: BlockColumn, source: BlockColumn, s0: usize, g: usize, count: usize)
-    requires {
-        ⌜ Source (length (now m)) (target .start) (target .width) (target .rows) (source .start) (source .width) (source .rows) s0 g count ⌝
-    }
+pub fn update_panel(
+    m: &mut [f64],
+    spare: &mut [f64],
+    target: BlockColumn,
+    source: BlockColumn,
+    s0: usize,
+    g: usize,
+    count: usize,
+)
+    requires { ⌜ Source (length (now m)) (target .start) (target .width) (target .rows) (source .start) (source .width) (source .rows) s0 g count ⌝ }
     requires { ⌜ (g ≤ 16) × (g ≡ 16 → 16 * count ≤ length (now spare)) ⌝ }
-    ensures {
-        λ r.
+    ensures { λ r.
         ⌜ PanelUpdated (target .start) (target .width) (target .rows) s0 g
-          (sourceAt (now (m .entry)) (source .start) (source .width) (source .rows - target .rows)) count (now (m .entry)) (now (m .exit)) ⌝
-    }
+        (sourceAt (now (m .entry)) (source .start) (source .width) (source .rows - target .rows)) count (now (m .entry)) (now (m .exit)) ⌝ }
 {
     if g == 16 {
         let first = source.rows - target.rows + s0;
@@ -142,17 +160,19 @@ pub fn update_panel(m: &mut [f64], spare: &mut [f64], target: BlockColumn, sourc
 }
 
 // All columns of the target, panel by panel, less the products of the first `count` columns of an earlier block column.
-pub fn update_block(m: &mut [f64], spare: &mut [f64], target: BlockColumn, source: BlockColumn, count: usize)
-    requires {
-        ⌜ Source (length (now m)) (target .start) (target .width) (target .rows) (source .start) (source .width) (source .rows) 0
-          (target .width) count ⌝
-    }
+pub fn update_block(
+    m: &mut [f64],
+    spare: &mut [f64],
+    target: BlockColumn,
+    source: BlockColumn,
+    count: usize,
+)
+    requires { ⌜ Source (length (now m)) (target .start) (target .width) (target .rows) (source .start) (source .width) (source .rows) 0
+        (target .width) count ⌝ }
     requires { ⌜ (16 ≤ target .width → 16 * count ≤ length (now spare)) ⌝ }
-    ensures {
-        λ r.
+    ensures { λ r.
         ⌜ PanelUpdated (target .start) (target .width) (target .rows) 0 (target .width)
-          (sourceAt (now (m .entry)) (source .start) (source .width) (source .rows - target .rows)) count (now (m .entry)) (now (m .exit)) ⌝
-    }
+        (sourceAt (now (m .entry)) (source .start) (source .width) (source .rows - target .rows)) count (now (m .entry)) (now (m .exit)) ⌝ }
 {
     let width = target.width;
     let mut s0 = 0;

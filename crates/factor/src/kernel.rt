@@ -23,10 +23,8 @@ pub fn minus_products(m: &[f64], x: usize, y: usize, count: usize, t: f64) -> f6
 // One product for each lane: x with the values from place `at` of the panel on.
 fn step16(start: [f64; 16], x: f64, panel: &[f64], at: usize) -> [f64; 16]
     requires { ⌜ at + 16 ≤ length (now panel) ⌝ }
-    ensures {
-        λ r.
-        ⌜ ((t : ℕ) → t < 16 → getD r t nan ≡ sub binary64 (getD start t nan) (mul binary64 x (getD (now (panel .entry)) (at + t) nan))) ⌝
-    }
+    ensures { λ r.
+        ⌜ ((t : ℕ) → t < 16 → getD r t nan ≡ sub binary64 (getD start t nan) (mul binary64 x (getD (now (panel .entry)) (at + t) nan))) ⌝ }
 {
     let mut lanes = start;
     let mut t = 0;
@@ -40,11 +38,9 @@ fn step16(start: [f64; 16], x: f64, panel: &[f64], at: usize) -> [f64; 16]
 // Lane t less the products of the count values from place x on with column t of the panel.
 fn kernel16(start: [f64; 16], m: &[f64], x: usize, panel: &[f64], count: usize) -> [f64; 16]
     requires { ⌜ (x + count ≤ length (now m)) × (16 * count ≤ length (now panel)) ⌝ }
-    ensures {
-        λ r.
+    ensures { λ r.
         ⌜ ((t : ℕ) → t < 16 →
-          getD r t nan ≡ minusProducts (rowAt (now (m .entry)) x) (laneAt (now (panel .entry)) t) count (getD start t nan)) ⌝
-    }
+        getD r t nan ≡ minusProducts (rowAt (now (m .entry)) x) (laneAt (now (panel .entry)) t) count (getD start t nan)) ⌝ }
 {
     let mut lanes = start;
     let mut k = 0;
@@ -83,12 +79,10 @@ fn store16(m: &mut [f64], at: usize, lanes: [f64; 16])
 // The 16 entries from place y on, each less the products of the count values from place x on with its column of the panel.
 pub fn update16(m: &mut [f64], panel: &[f64], x: usize, y: usize, count: usize)
     requires { ⌜ (x + count ≤ length (now m)) × (y + 16 ≤ length (now m)) × (16 * count ≤ length (now panel)) ⌝ }
-    ensures {
-        λ r.
+    ensures { λ r.
         ⌜ Filled y 16
-          (λ t. minusProducts (rowAt (now (m .entry)) x) (laneAt (now (panel .entry)) t) count (getD (now (m .entry)) (y + t) nan))
-          (now (m .entry)) (now (m .exit)) ⌝
-    }
+        (λ t. minusProducts (rowAt (now (m .entry)) x) (laneAt (now (panel .entry)) t) count (getD (now (m .entry)) (y + t) nan))
+        (now (m .entry)) (now (m .exit)) ⌝ }
 {
     let start = load16(m, y);
     let lanes = kernel16(start, m, x, panel, count);

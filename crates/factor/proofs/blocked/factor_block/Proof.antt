@@ -25,9 +25,13 @@ least-requires : tie.Need-least-requires Inv-loop μ-loop
 least-requires c κs = search needs
 
 factor-panel-requires : tie.Need-factor-panel-requires Inv-loop μ-loop
-factor-panel-requires c κs =
-    (omega (arith, c .before .before .before .before .before .before .before .pre .0, c .before .before .least .ensures, c .before .before .before .loop-test .taken, c .before .before .before .before .loop .inv .2 .kept), (omega (arith, c .before .before .least .ensures),
-    (λ full. omega (arith, c .before .before .before .before .before .before .before .pre .1 (omega (arith, c .before .before .least .ensures, c .before .before .before .loop-test .taken)), c .before .before .before .before .loop .inv .1, c .before .before .least .ensures, c .before .before .before .loop-test .taken))))
+factor-panel-requires c κs = (
+  omega (arith, c .before .before .before .before .before .before .before .pre .0, c .before .before .least .ensures, c .before .before .before .loop-test .taken, c .before .before .before .before .loop .inv .2 .kept),
+  (
+    omega (arith, c .before .before .least .ensures),
+    (λ full. omega (arith, c .before .before .before .before .before .before .before .pre .1 (omega (arith, c .before .before .least .ensures, c .before .before .before .loop-test .taken)), c .before .before .before .before .loop .inv .1, c .before .before .least .ensures, c .before .before .before .loop-test .taken)),
+  ),
+)
 
 accepted-requires : tie.Need-accepted-requires Inv-loop μ-loop
 accepted-requires c κs = search needs
@@ -55,10 +59,12 @@ loop-less c = omega (arith, c .before .before .before .before .before .before .b
 loop-again : tie.Need-loop-again Inv-loop μ-loop
 loop-again c =
     let a = c .before .before .before .before .before .before .before .before .before .before .before .before .before .before .args in
-    let l = c .before .before .before .before .before .before .before .before .before .before .before .loop in
-    (omega (arith, c .before .before .before .before .before .before .before .before .before .least .ensures, c .before .before .before .before .before .before .before .before .before .before .loop-test .taken), (c .before .before .before .before .before .before .factor-panel .kept .1 .0 ∙ l .inv .1),
-    running-panel (a .c) (a .width) (a .rows) (l .s0) (l .s0 + c .before .before .before .before .before .before .before .before .before .least .result) (a .part .now) (l .part) _ (c .before .before .before .before .before .before .factor-panel .result) (l .inv .2) (c .before .before .before .before .before .before .factor-panel .ensures)
-    (accepted-of (c .before .accepted .result) (c .before .before .before .before .before .before .factor-panel .result) (c .before .accepted .ensures) (c .if1 .left)))
+    let l = c .before .before .before .before .before .before .before .before .before .before .before .loop in (
+      omega (arith, c .before .before .before .before .before .before .before .before .before .least .ensures, c .before .before .before .before .before .before .before .before .before .before .loop-test .taken),
+      (c .before .before .before .before .before .before .factor-panel .kept .1 .0 ∙ l .inv .1),
+      running-panel (a .c) (a .width) (a .rows) (l .s0) (l .s0 + c .before .before .before .before .before .before .before .before .before .least .result) (a .part .now) (l .part) _ (c .before .before .before .before .before .before .factor-panel .result) (l .inv .2) (c .before .before .before .before .before .before .factor-panel .ensures)
+          (accepted-of (c .before .accepted .result) (c .before .before .before .before .before .before .factor-panel .result) (c .before .accepted .ensures) (c .if1 .left)),
+    )
 
 refusal-requires : tie.Need-refusal-requires Inv-loop μ-loop
 refusal-requires c κs = search needs

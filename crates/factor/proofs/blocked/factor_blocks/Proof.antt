@@ -55,10 +55,13 @@ loop-again c =
     let a = c .before .before .before .before .before .before .before .before .before .before .before .before .before .before .args in
     let l = c .before .before .before .before .before .before .before .before .before .before .before .loop in
     let here = block-at (l .c) (length (l .m)) (c .before .before .before .before .before .before .before .before .before .before .before .before .before .before .pre) (l .inv .3 .kept) (c .before .before .before .before .before .before .before .before .before .before .loop-test .taken) (l .inv .1 (c .before .before .before .before .before .before .before .before .before .before .loop-test .taken)) in
-    rw (c .block-width .ensures)
-    (omega (arith, width-le (a .shape .order) (a .shape .block) (l .c), c .before .before .before .before .before .before .before .before .before .before .loop-test .taken), (λ inside. next-first here inside), (c .before .before .before .before .before .before .before .factor-step .kept .1 .0 ∙ l .inv .2),
-    reached-next (a .m .now) (l .m) _ (c .before .before .before .before .before .before .before .factor-step .result) here (l .inv .3) (c .before .before .before .before .before .before .before .factor-step .ensures)
-    (accepted-of (c .before .before .accepted .result) (c .before .before .before .before .before .before .before .factor-step .result) (c .before .before .accepted .ensures) (c .before .if1 .left)))
+    rw (c .block-width .ensures) (
+      omega (arith, width-le (a .shape .order) (a .shape .block) (l .c), c .before .before .before .before .before .before .before .before .before .before .loop-test .taken),
+      (λ inside. next-first here inside),
+      (c .before .before .before .before .before .before .before .factor-step .kept .1 .0 ∙ l .inv .2),
+      reached-next (a .m .now) (l .m) _ (c .before .before .before .before .before .before .before .factor-step .result) here (l .inv .3) (c .before .before .before .before .before .before .before .factor-step .ensures)
+          (accepted-of (c .before .before .accepted .result) (c .before .before .before .before .before .before .before .factor-step .result) (c .before .before .accepted .ensures) (c .before .if1 .left)),
+    )
 
 refusal-requires : tie.Need-refusal-requires Inv-loop μ-loop
 refusal-requires c κs = search needs

@@ -38,10 +38,14 @@ factor-block-requires : tie.Need-factor-block-requires
 factor-block-requires c κs =
     let a = c .before .before .before .before .before .before .before .before .before .before .before .before .before .before .args in
     let m = c .before .before .before .before .before .before .before .before .before .update-by-all .last .0 in
-    rw (c .before .before .before .before .block-start .ensures, c .before .before .before .block-width .ensures)
-    ((width-le (a .shape .order) (a .shape .block) (a .c), omega (arith, c .before .before .before .before .before .before .before .before .before .before .before .before .before .before .pre .0 .order, c .before .before .before .before .before .before .before .before .before .before .before .before .before .before .pre .0 .inside),
-    omega (arith, part-length m (blockStart (a .shape .order) (a .c)), block-room (c .before .before .before .before .before .before .before .before .before .before .before .before .before .before .pre .0), c .before .before .before .before .before .before .before .before .before .update-by-all .ensures .kept)),
-    (λ wide. omega (arith, c .before .before .before .before .before .before .before .before .before .before .before .before .before .before .pre .1 .own wide, c .before .before .before .before .before .before .before .before .before .update-by-all .kept .1 .0)))
+    rw (c .before .before .before .before .block-start .ensures, c .before .before .before .block-width .ensures) (
+      (
+        width-le (a .shape .order) (a .shape .block) (a .c),
+        omega (arith, c .before .before .before .before .before .before .before .before .before .before .before .before .before .before .pre .0 .order, c .before .before .before .before .before .before .before .before .before .before .before .before .before .before .pre .0 .inside),
+        omega (arith, part-length m (blockStart (a .shape .order) (a .c)), block-room (c .before .before .before .before .before .before .before .before .before .before .before .before .before .before .pre .0), c .before .before .before .before .before .before .before .before .before .update-by-all .ensures .kept),
+      ),
+      (λ wide. omega (arith, c .before .before .before .before .before .before .before .before .before .before .before .before .before .before .pre .1 .own wide, c .before .before .before .before .before .before .before .before .before .update-by-all .kept .1 .0)),
+    )
 
 same-length : tie.Need-same-length
 same-length c = search needs

@@ -35,10 +35,13 @@ save-requires c κs =
 factor-kept-requires : tie.Need-factor-kept-requires
 factor-kept-requires c κs =
     let a = c .before .before .before .before .before .before .before .before .before .before .before .before .args in
-    let end = c .before .before .before .before .before .before .before .block-start2 .ensures ∙ ap (λ (w : ℕ). blockStart (a .shape .order) (a .c + w)) (c .before .before .before .before .before .before .before .before .block-width .ensures) in
-    (c .before .before .before .before .before .before .before .before .before .before .before .before .pre .0,
-    (omega (arith, c .before .before .before .before .save .kept .1 .0, c .before .before .before .before .before .before .before .before .before .before .before .before .pre .1, size-le (c .before .before .before .before .before .before .before .before .before .before .before .before .pre .0), c .before .before .before .before .before .before .before .before .before .block-start .ensures, end),
-    rw (c .before .before .before .before .before .before .before .before .before .block-start .ensures, end, c .before .before .before .before .save .kept .1 .0, c .before .before .before .before .before .before .before .before .before .before .before .before .pre .1) (spare-room (c .before .before .before .before .before .before .before .before .before .before .before .before .pre .0))))
+    let end = c .before .before .before .before .before .before .before .block-start2 .ensures ∙ ap (λ (w : ℕ). blockStart (a .shape .order) (a .c + w)) (c .before .before .before .before .before .before .before .before .block-width .ensures) in (
+      c .before .before .before .before .before .before .before .before .before .before .before .before .pre .0,
+      (
+        omega (arith, c .before .before .before .before .save .kept .1 .0, c .before .before .before .before .before .before .before .before .before .before .before .before .pre .1, size-le (c .before .before .before .before .before .before .before .before .before .before .before .before .pre .0), c .before .before .before .before .before .before .before .before .before .block-start .ensures, end),
+        rw (c .before .before .before .before .before .before .before .before .before .block-start .ensures, end, c .before .before .before .before .save .kept .1 .0, c .before .before .before .before .before .before .before .before .before .before .before .before .pre .1) (spare-room (c .before .before .before .before .before .before .before .before .before .before .before .before .pre .0)),
+      ),
+    )
 
 accepted-requires : tie.Need-accepted-requires
 accepted-requires c κs = search needs

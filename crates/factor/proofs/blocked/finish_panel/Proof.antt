@@ -44,11 +44,13 @@ loop-less c = omega (arith, c .before .before .before .before .before .before .l
 loop-again : tie.Need-loop-again Inv-loop μ-loop
 loop-again c =
     let a = c .before .before .before .before .before .before .before .before .before .args in
-    let l = c .before .before .before .before .before .before .before .loop in
-    (omega (arith, l .inv .0), omega (arith, c .before .before .before .before .before .before .loop-test .taken),
-    running-column (a .c) (a .width) (a .rows) (a .s0) (a .e) (l .s) (a .part .now) (l .part) _ (c .before .before .before .before .finish-column .result) (l .inv .2) (l .inv .0) (c .before .before .before .before .before .before .loop-test .taken)
-    (omega (arith, c .before .before .before .before .before .before .before .before .before .pre)) (omega (arith, c .before .before .before .before .before .before .before .before .before .pre)) (c .before .before .before .before .finish-column .ensures)
-    (accepted-of (c .before .accepted .result) (c .before .before .before .before .finish-column .result) (c .before .accepted .ensures) (c .if1 .left)))
+    let l = c .before .before .before .before .before .before .before .loop in (
+      omega (arith, l .inv .0),
+      omega (arith, c .before .before .before .before .before .before .loop-test .taken),
+      running-column (a .c) (a .width) (a .rows) (a .s0) (a .e) (l .s) (a .part .now) (l .part) _ (c .before .before .before .before .finish-column .result) (l .inv .2) (l .inv .0) (c .before .before .before .before .before .before .loop-test .taken)
+          (omega (arith, c .before .before .before .before .before .before .before .before .before .pre)) (omega (arith, c .before .before .before .before .before .before .before .before .before .pre)) (c .before .before .before .before .finish-column .ensures)
+          (accepted-of (c .before .accepted .result) (c .before .before .before .before .finish-column .result) (c .before .accepted .ensures) (c .if1 .left)),
+    )
 
 refusal-requires : tie.Need-refusal-requires Inv-loop μ-loop
 refusal-requires c κs = search needs

@@ -74,13 +74,15 @@ loop-again c =
     let l = c .before .before .before .before .before .loop in
     let row = c .before .before .before .place-in-block2 .ensures in
     let room : rowStart (a .width) (l .r + 1) ≤ length (a .part .now) =
-        omega (arith, c .before .before .before .before .before .before .before .before .pre, row-next (a .width) (l .r), row-within (a .width) (l .r) (a .rows) (c .before .before .before .before .loop-test .taken))
-    in
-    (omega (arith, l .inv .0), omega (arith, c .before .before .before .before .loop-test .taken),
-    rw (c .is-finite .ensures, row)
-    (under-next (a .width) (l .r) (a .s0) (a .s) (a .root) (a .part .now) (l .part) (l .finite) (l .inv .2) (l .inv .0) (omega (arith, c .before .before .before .before .before .before .before .before .pre)) (omega (arith, c .before .before .before .before .before .before .before .before .pre)) room
-    (div binary64 (c .before .minus-products .result) (a .root))
-    (ap (λ (v : Float). div binary64 v (a .root)) (rw (row, c .before .before .before .before .before .before .place-in-block .ensures) at (c .before .minus-products .ensures)))))
+    omega (arith, c .before .before .before .before .before .before .before .before .pre, row-next (a .width) (l .r), row-within (a .width) (l .r) (a .rows) (c .before .before .before .before .loop-test .taken))
+    in (
+      omega (arith, l .inv .0),
+      omega (arith, c .before .before .before .before .loop-test .taken),
+      rw (c .is-finite .ensures, row)
+          (under-next (a .width) (l .r) (a .s0) (a .s) (a .root) (a .part .now) (l .part) (l .finite) (l .inv .2) (l .inv .0) (omega (arith, c .before .before .before .before .before .before .before .before .pre)) (omega (arith, c .before .before .before .before .before .before .before .before .pre)) room
+          (div binary64 (c .before .minus-products .result) (a .root))
+          (ap (λ (v : Float). div binary64 v (a .root)) (rw (row, c .before .before .before .before .before .before .place-in-block .ensures) at (c .before .minus-products .ensures)))),
+    )
 
 same-length : tie.Need-same-length Inv-loop μ-loop
 same-length c = c .before .loop .inv .2 .kept

@@ -50,10 +50,13 @@ loop-less c = omega (arith, c .before .before .before .before .before .before .b
 loop-again : tie.Need-loop-again Inv-loop μ-loop
 loop-again c =
     let a = c .before .before .before .before .before .before .before .before .before .before .before .before .before .before .args in
-    let l = c .before .before .before .before .before .before .before .before .before .loop in
-    (next-le (c .before .before .before .before .before .before .before .before .before .before .before .before .before .before .pre .0) (l .k) (l .inv .1) (c .before .before .before .before .before .before .before .before .loop-test .taken), block-of-next (a .shape .block) (l .k) (c .before .before .before .before .before .before .before .before .before .before .before .before .before .before .pre .0 .block) (l .inv .1), (c .before .before .before .before .update-block .kept .1 .0 ∙ l .inv .2),
-    earlier-next (c .before .before .before .before .before .before .before .before .before .before .before .before .before .before .pre .0) (l .k) (l .inv .1) (c .before .before .before .before .before .before .before .before .loop-test .taken) (a .m .now) (l .m) _ refl (l .inv .3)
-    (rw (c .before .before .before .before .before .before .before .before .before .before .before .block-start .ensures, c .before .before .before .before .before .before .before .before .before .before .block-width .ensures, c .before .before .before .before .before .before .before .block-start2 .ensures) at (c .before .before .before .before .update-block .ensures)))
+    let l = c .before .before .before .before .before .before .before .before .before .loop in (
+      next-le (c .before .before .before .before .before .before .before .before .before .before .before .before .before .before .pre .0) (l .k) (l .inv .1) (c .before .before .before .before .before .before .before .before .loop-test .taken),
+      block-of-next (a .shape .block) (l .k) (c .before .before .before .before .before .before .before .before .before .before .before .before .before .before .pre .0 .block) (l .inv .1),
+      (c .before .before .before .before .update-block .kept .1 .0 ∙ l .inv .2),
+      earlier-next (c .before .before .before .before .before .before .before .before .before .before .before .before .before .before .pre .0) (l .k) (l .inv .1) (c .before .before .before .before .before .before .before .before .loop-test .taken) (a .m .now) (l .m) _ refl (l .inv .3)
+          (rw (c .before .before .before .before .before .before .before .before .before .before .before .block-start .ensures, c .before .before .before .before .before .before .before .before .before .before .block-width .ensures, c .before .before .before .before .before .before .before .block-start2 .ensures) at (c .before .before .before .before .update-block .ensures)),
+    )
 
 same-length : tie.Need-same-length Inv-loop μ-loop
 same-length c = c .before .loop .inv .3 .kept

@@ -38,9 +38,11 @@ loop-less c = omega arith
 loop-again : tie.Need-loop-again Inv-loop μ-loop
 loop-again c =
     let a = c .before .before .before .before .before .before .before .before .before .args in
-    let l = c .before .before .before .before .before .before .loop in
-    (omega arith, omega (arith, c .before .before .pack-lane .ensures .kept),
-    packed-next (l .panel) _ (a .m .now) (a .source .start) (a .source .width) (a .first) (a .count) (l .t) (l .inv .2) (c .before .before .before .before .before .loop-test .taken) (rw (c .before .before .before .before .place-in-block .ensures) at (c .before .before .pack-lane .ensures)))
+    let l = c .before .before .before .before .before .before .loop in (
+      omega arith,
+      omega (arith, c .before .before .pack-lane .ensures .kept),
+      packed-next (l .panel) _ (a .m .now) (a .source .start) (a .source .width) (a .first) (a .count) (l .t) (l .inv .2) (c .before .before .before .before .before .loop-test .taken) (rw (c .before .before .before .before .place-in-block .ensures) at (c .before .before .pack-lane .ensures)),
+    )
 
 same-length : tie.Need-same-length Inv-loop μ-loop
 same-length c = c .before .loop .inv .1

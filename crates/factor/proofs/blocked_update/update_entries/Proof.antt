@@ -59,11 +59,12 @@ loop-again : tie.Need-loop-again Inv-loop μ-loop
 loop-again c =
     let a = c .before .before .before .before .before .before .args in
     let l = c .before .before .before .before .loop in
-    let v = c .minus-products .result in
-    (omega arith,
-    entries-next (a .m .now) (l .m) (a .source .start) (a .source .width) (a .first) (a .x) (a .y) (a .count) (l .t) v
-    (omega (arith, c .before .before .before .before .before .before .pre .0)) (c .before .before .before .before .before .before .pre .1 (l .t) (c .before .before .before .loop-test .taken)) (omega (arith, c .before .before .before .before .before .before .pre .0)) (l .inv .1)
-    (rw (c .before .before .place-in-block .ensures) at (c .minus-products .ensures)))
+    let v = c .minus-products .result in (
+      omega arith,
+      entries-next (a .m .now) (l .m) (a .source .start) (a .source .width) (a .first) (a .x) (a .y) (a .count) (l .t) v
+          (omega (arith, c .before .before .before .before .before .before .pre .0)) (c .before .before .before .before .before .before .pre .1 (l .t) (c .before .before .before .loop-test .taken)) (omega (arith, c .before .before .before .before .before .before .pre .0)) (l .inv .1)
+          (rw (c .before .before .place-in-block .ensures) at (c .minus-products .ensures)),
+    )
 
 same-length : tie.Need-same-length Inv-loop μ-loop
 same-length c = c .before .loop .inv .1 .kept

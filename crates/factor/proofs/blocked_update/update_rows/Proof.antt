@@ -68,10 +68,12 @@ loop-less c = omega (arith, c .before .before .before .before .before .before .b
 loop-again : tie.Need-loop-again Inv-loop μ-loop
 loop-again c =
     let a = c .before .before .before .before .before .before .before .before .before .before .before .before .before .before .before .before .args in
-    let l = c .before .before .before .before .before .before .before .before .before .before .before .loop in
-    (omega (arith, l .inv .0), omega (arith, c .before .before .before .before .before .before .before .before .before .if1 .taken),
-    panel-next (a .m .now) (l .m) _ (c .before .before .before .before .before .before .before .before .before .before .before .before .before .before .before .before .pre .0) (l .r) (l .inv .0) (c .before .before .before .before .before .before .before .before .before .if1 .taken) (l .inv .2)
-    (rw (c .before .before .before .before .before .before .before .before .place-in-block .ensures, c .before .before .before .before .before .before .place-in-block2 .ensures, c .before .before .before .before .least .ensures) at (c .before .before .update-row .ensures)))
+    let l = c .before .before .before .before .before .before .before .before .before .before .before .loop in (
+      omega (arith, l .inv .0),
+      omega (arith, c .before .before .before .before .before .before .before .before .before .if1 .taken),
+      panel-next (a .m .now) (l .m) _ (c .before .before .before .before .before .before .before .before .before .before .before .before .before .before .before .before .pre .0) (l .r) (l .inv .0) (c .before .before .before .before .before .before .before .before .before .if1 .taken) (l .inv .2)
+          (rw (c .before .before .before .before .before .before .before .before .place-in-block .ensures, c .before .before .before .before .before .before .place-in-block2 .ensures, c .before .before .before .before .least .ensures) at (c .before .before .update-row .ensures)),
+    )
 
 same-length : tie.Need-same-length Inv-loop μ-loop
 same-length c = c .before .before .loop .inv .2 .kept

@@ -44,12 +44,13 @@ loop-less c = omega arith
 loop-again : tie.Need-loop-again Inv-loop μ-loop
 loop-again c =
     let a = c .before .before .before .before .before .before .args in
-    let l = c .before .before .before .loop in
-    (omega arith,
-    λ t h.
-    c .step16 .ensures t h
-    ∙ ap (λ (v : Float). sub binary64 v (mul binary64 (rowAt (a .m .now) (a .x) (l .k)) (laneAt (a .panel .now) t (l .k)))) (l .inv .1 t h)
-    ∙ sym (products-next (rowAt (a .m .now) (a .x)) (laneAt (a .panel .now) t) (l .k) (getD (a .start) t nan)))
+    let l = c .before .before .before .loop in (
+      omega arith,
+      λ t h.
+          c .step16 .ensures t h
+          ∙ ap (λ (v : Float). sub binary64 v (mul binary64 (rowAt (a .m .now) (a .x) (l .k)) (laneAt (a .panel .now) t (l .k)))) (l .inv .1 t h)
+          ∙ sym (products-next (rowAt (a .m .now) (a .x)) (laneAt (a .panel .now) t) (l .k) (getD (a .start) t nan)),
+    )
 
 returns : tie.Need-returns Inv-loop μ-loop
 returns c =

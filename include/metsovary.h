@@ -1,0 +1,61 @@
+/* Metsovary: Cholesky factor and solution of symmetric positive definite systems of order up to 4,000 in binary64, packed or by blocks, bit for bit
+ * the same on both ways. Link libengine.a (rt staticlib engine).
+ *
+ * A call examines its orders, lengths and values itself, refuses by the first rule of the list below that holds, and touches only the memory that it is
+ * lent. The caller owes: pointers to as many values as the length says (any pointer where that is 0), memories that do not overlap, the processor's default
+ * rounding to nearest, and subnormal numbers that are not flushed to zero.
+ *
+ * Layouts of the lower triangle, entry (i, j), i >= j, counted from 0, n the order, b the block length:
+ *   packed    i + j(2n - j - 1)/2
+ *   blocked   c = b floor(j / b), w = min(b, n - c), r = i - c, s = j - c; from c(2n - c + 1)/2 on:
+ *             r(r + 1)/2 + s where r < w, else w(w + 1)/2 + (r - w)w + s
+ *
+ * code  meaning                                                               place
+ *    0  success                                                               0
+ *    1  the order is over 4,000                                               0
+ *    2  a call that works by blocks: the block length is 0 or over 200        0
+ *    3  the matrix is not exactly n(n + 1)/2 values                           0
+ *    4  the work memory is too short                                          0
+ *    5  a solver: over 1,000 right-hand sides                                 0
+ *    6  a solver: the right-hand sides are not exactly n times their number   0
+ *    7  a factor or solver: a matrix value is not finite                      its lowest position
+ *    8  a solver: a right-hand-side value is not finite                       its lowest position
+ *    9  a solver: a diagonal value is not greater than zero                   its lowest column
+ *   10  a factor: a pivot is not greater than zero; value: the pivot          the column
+ *   11  a factor: an entry below an accepted pivot is not finite              the column
+ *   12  a solver: a value of a solution is not finite                         the right-hand side
+ *
+ * After 1 to 9 all memory is as it was. On success and after 10 to 12 the needed length of work memory is +0 and the rest as it was. */
+#ifndef METSOVARY_H
+#define METSOVARY_H
+
+#include <stddef.h>
+#include <stdint.h>
+
+#ifdef __cplusplus
+extern "C" {
+#endif
+
+typedef struct { uint64_t order, block; } metsovary_shape;
+typedef struct { uint64_t code, place; double value; } metsovary_result;
+
+/* Rearrange a matrix or a factor in its own memory: packed to blocked, and back. Values of every kind move with their bits kept. Work: n min(n, b) values. */
+metsovary_result metsovary_packed_to_blocked(metsovary_shape, double *matrix, size_t, double *work, size_t);
+metsovary_result metsovary_blocked_to_packed(metsovary_shape, double *matrix, size_t, double *work, size_t);
+
+/* The factor of a packed matrix, in its own memory. Work: n values. After 10 or 11 the columns before the place are finished, the others as they were. */
+metsovary_result metsovary_factor_plain(metsovary_shape, double *matrix, size_t, double *work, size_t);
+
+/* The factor of a blocked matrix, in its own memory. Work: n min(n, b) values. After 10 or 11 the block columns before the one that holds the place are
+ * finished, the others as they were. */
+metsovary_result metsovary_factor_blocked(metsovary_shape, double *matrix, size_t, double *work, size_t);
+
+/* The solutions of right_sides right-hand sides of n values each, one after another in x, in their own memory, from a packed or a blocked factor. Work: n
+ * values. After 12 the right-hand sides before the place hold solutions, that one and the later ones are as they were. */
+metsovary_result metsovary_solve_plain(metsovary_shape, uint64_t right_sides, const double *matrix, size_t, double *x, size_t, double *work, size_t);
+metsovary_result metsovary_solve_blocked(metsovary_shape, uint64_t right_sides, const double *matrix, size_t, double *x, size_t, double *work, size_t);
+
+#ifdef __cplusplus
+}
+#endif
+#endif

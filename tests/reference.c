@@ -1,0 +1,300 @@
+#include "reference.h"
+
+#include <math.h>
+#include <stdarg.h>
+
+/* ---- places ---- */
+
+size_t place(enum layout layout, metsovary_shape shape, size_t i, size_t j) {
+    size_t n = shape.order, b = shape.block;
+    if (layout == PACKED) return j == 0 ? i : i + j * (2 * n - j - 1) / 2;
+    size_t c = b * (j / b), w = b < n - c ? b : n - c, r = i - c, s = j - c;
+    return c * (2 * n - c + 1) / 2 + (r < w ? r * (r + 1) / 2 + s : w * (w + 1) / 2 + (r - w) * w + s);
+}
+
+/* ---- rules ---- */
+
+static metsovary_result answer(uint64_t code, uint64_t where, double value) {
+    metsovary_result r = {code, where, value};
+    return r;
+}
+
+static size_t block_work(metsovary_shape shape) {
+    return shape.order * (shape.order < shape.block ? shape.order : shape.block);
+}
+
+static uint64_t sizes(bool by_blocks, size_t needed, metsovary_shape shape, size_t length, size_t work) {
+    if (shape.order > 4000) return 1;
+    if (by_blocks && (shape.block == 0 || shape.block > 200)) return 2;
+    if (length != shape.order * (shape.order + 1) / 2) return 3;
+    if (work < needed) return 4;
+    return 0;
+}
+
+/* the needed work is asked for only where the order is in bounds */
+static uint64_t check_sizes(bool by_blocks, bool wide, metsovary_shape shape, size_t length, size_t work) {
+    size_t needed = shape.order > 4000 ? 0 : wide ? block_work(shape) : shape.order;
+    return sizes(by_blocks, needed, shape, length, work);
+}
+
+static size_t first_not_finite(const double *values, size_t length) {
+    size_t p = 0;
+    while (p < length && isfinite(values[p])) p++;
+    return p;
+}
+
+static void clear(double *work, size_t needed) {
+    for (size_t k = 0; k < needed; k++) work[k] = 0.0;
+}
+
+/* ---- rearranging: values move as bits ---- */
+
+metsovary_result reference_rearrange(enum layout from, enum layout to, metsovary_shape shape, double *matrix, size_t length, double *work, size_t work_length) {
+    uint64_t code = check_sizes(true, true, shape, length, work_length);
+    if (code) return answer(code, 0, 0.0);
+    uint64_t *old = malloc(length * 8 + 8);
+    memcpy(old, matrix, length * 8);
+    for (size_t j = 0; j < shape.order; j++)
+        for (size_t i = j; i < shape.order; i++) memcpy(&matrix[place(to, shape, i, j)], &old[place(from, shape, i, j)], 8);
+    free(old);
+    clear(work, block_work(shape));
+    return answer(0, 0, 0.0);
+}
+
+/* ---- the arithmetic, on a full square array by columns ---- */
+
+static double *load(enum layout layout, metsovary_shape shape, const double *matrix) {
+    size_t n = shape.order;
+    double *a = malloc((n * n + 1) * sizeof *a);
+    for (size_t j = 0; j < n; j++)
+        for (size_t i = j; i < n; i++) a[i + j * n] = matrix[place(layout, shape, i, j)];
+    return a;
+}
+
+metsovary_result reference_factor(enum layout layout, metsovary_shape shape, double *matrix, size_t length, double *work, size_t work_length) {
+    size_t n = shape.order;
+    uint64_t code = check_sizes(layout == BLOCKED, layout == BLOCKED, shape, length, work_length);
+    if (code) return answer(code, 0, 0.0);
+    size_t bad = first_not_finite(matrix, length);
+    if (bad < length) return answer(7, bad, 0.0);
+    double *a = load(layout, shape, matrix);
+    metsovary_result r = answer(0, 0, 0.0);
+    size_t j;
+    for (j = 0; j < n && r.code == 0; j++) {
+        double *column = a + j * n;
+        for (size_t k = 0; k < j; k++) {
+            double x = a[j + k * n];
+            for (size_t i = j; i < n; i++) {
+                double product = a[i + k * n] * x;
+                column[i] = column[i] - product;
+            }
+        }
+        double pivot = column[j];
+        if (!(pivot > 0)) {
+            r = answer(10, j, pivot);
+            break;
+        }
+        column[j] = sqrt(pivot);
+        for (size_t i = j + 1; i < n; i++) {
+            column[i] = column[i] / column[j];
+            if (!isfinite(column[i])) r = answer(11, j, 0.0);
+        }
+        if (r.code) break;
+    }
+    size_t finished = r.code == 0 ? n : layout == PACKED ? j : shape.block * (j / shape.block);
+    for (size_t c = 0; c < finished; c++)
+        for (size_t i = c; i < n; i++) matrix[place(layout, shape, i, c)] = a[i + c * n];
+    free(a);
+    clear(work, layout == PACKED ? n : block_work(shape));
+    return r;
+}
+
+metsovary_result reference_solve(enum layout layout, metsovary_shape shape, uint64_t m, const double *matrix, size_t length, double *x, size_t x_length, double *work, size_t work_length) {
+    size_t n = shape.order;
+    uint64_t code = check_sizes(layout == BLOCKED, false, shape, length, work_length);
+    if (code) return answer(code, 0, 0.0);
+    if (m > 1000) return answer(5, 0, 0.0);
+    if (x_length != n * m) return answer(6, 0, 0.0);
+    size_t bad = first_not_finite(matrix, length);
+    if (bad < length) return answer(7, bad, 0.0);
+    bad = first_not_finite(x, x_length);
+    if (bad < x_length) return answer(8, bad, 0.0);
+    for (size_t j = 0; j < n; j++)
+        if (!(matrix[place(layout, shape, j, j)] > 0)) return answer(9, j, 0.0);
+    double *l = load(layout, shape, matrix);
+    double *y = malloc((n + 1) * sizeof *y);
+    metsovary_result r = answer(0, 0, 0.0);
+    for (size_t q = 0; q < m && r.code == 0; q++) {
+        bool finite = true;
+        for (size_t i = 0; i < n; i++) {
+            double t = x[q * n + i];
+            for (size_t k = 0; k < i; k++) {
+                double product = l[i + k * n] * y[k];
+                t = t - product;
+            }
+            y[i] = t / l[i + i * n];
+            finite = finite && isfinite(y[i]);
+        }
+        for (size_t i = n; i-- > 0;) {
+            double t = y[i];
+            for (size_t k = n - 1; k > i; k--) {
+                double product = l[k + i * n] * y[k];
+                t = t - product;
+            }
+            y[i] = t / l[i + i * n];
+            finite = finite && isfinite(y[i]);
+        }
+        if (finite) memcpy(x + q * n, y, n * sizeof *y);
+        else r = answer(12, q, 0.0);
+    }
+    free(y);
+    free(l);
+    clear(work, n);
+    return r;
+}
+
+/* ---- memory ---- */
+
+enum { GUARD = 8 };
+
+memory memory_new(size_t length) {
+    memory m;
+    m.all = malloc((length + 2 * GUARD) * sizeof *m.all);
+    if (!m.all) abort();
+    m.values = m.all + GUARD;
+    m.length = length;
+    for (size_t k = 0; k < length + 2 * GUARD; k++) m.all[k] = 0.0;
+    for (size_t k = 0; k < GUARD; k++) m.all[k] = m.values[length + k] = from_bits(0x7ff4000000000000u + k);
+    return m;
+}
+
+memory memory_copy(memory m) {
+    memory c = memory_new(m.length);
+    memcpy(c.all, m.all, (m.length + 2 * GUARD) * sizeof *m.all);
+    return c;
+}
+
+void memory_free(memory m) { free(m.all); }
+
+bool memory_same(memory a, memory b) {
+    return a.length == b.length && memcmp(a.all, b.all, (a.length + 2 * GUARD) * sizeof *a.all) == 0;
+}
+
+/* ---- numbers ---- */
+
+static uint64_t state = 0x9e3779b97f4a7c15u;
+
+uint64_t random_bits(void) {
+    state += 0x9e3779b97f4a7c15u;
+    uint64_t z = state;
+    z = (z ^ (z >> 30)) * 0xbf58476d1ce4e5b9u;
+    z = (z ^ (z >> 27)) * 0x94d049bb133111ebu;
+    return z ^ (z >> 31);
+}
+
+double random_unit(void) { return (double)(int64_t)random_bits() / 9223372036854775808.0; }
+
+double from_bits(uint64_t bits) {
+    double x;
+    memcpy(&x, &bits, 8);
+    return x;
+}
+
+uint64_t to_bits(double x) {
+    uint64_t bits;
+    memcpy(&bits, &x, 8);
+    return bits;
+}
+
+void fill_any(memory m) {
+    static const uint64_t kinds[] = {0x7ff8000000000000u, 0x7ff0000000000001u, 0xfff8000000000000u, 0xfff0000000000001u, 0x7ff8dead0000beefu, 0xfff4000000000007u,
+        0x7ff0000000000000u, 0xfff0000000000000u, 0x0000000000000001u, 0x8000000000000000u, 0};
+    for (size_t k = 0; k < m.length; k++) {
+        uint64_t bits = random_bits();
+        if (bits % 4 == 0) bits = kinds[bits / 4 % (sizeof kinds / sizeof *kinds)];
+        memcpy(&m.values[k], &bits, 8);
+    }
+}
+
+/* ---- counting ---- */
+
+static const char *current;
+static int passed, failed, in_group;
+
+static void close_group(void) {
+    if (!current) return;
+    if (in_group) failed++;
+    else passed++;
+    printf("%s: %s\n", current, in_group ? "FAILED" : "ok");
+    fflush(stdout);
+}
+
+void group(const char *name) {
+    close_group();
+    current = name;
+    in_group = 0;
+}
+
+bool expect(bool ok, const char *format, ...) {
+    if (ok) return true;
+    if (in_group++ < 10) {
+        va_list list;
+        va_start(list, format);
+        printf("  not so: ");
+        vprintf(format, list);
+        printf("\n");
+        va_end(list);
+    }
+    return false;
+}
+
+int finish(void) {
+    close_group();
+    printf("%d passed, %d failed\n", passed, failed);
+    return failed != 0;
+}
+
+/* ---- comparing a call of the engine with the reference ---- */
+
+static metsovary_result compared(const char *what, metsovary_shape shape, metsovary_result got, metsovary_result wanted, bool memories) {
+    expect(got.code == wanted.code && got.place == wanted.place && to_bits(got.value) == to_bits(wanted.value),
+        "%s n %llu b %llu: %llu %llu %016llx, wanted %llu %llu %016llx", what, (unsigned long long)shape.order, (unsigned long long)shape.block,
+        (unsigned long long)got.code, (unsigned long long)got.place, (unsigned long long)to_bits(got.value), (unsigned long long)wanted.code,
+        (unsigned long long)wanted.place, (unsigned long long)to_bits(wanted.value));
+    expect(memories, "%s n %llu b %llu: memory differs (code %llu)", what, (unsigned long long)shape.order, (unsigned long long)shape.block, (unsigned long long)wanted.code);
+    return wanted;
+}
+
+metsovary_result compare_rearrange(enum layout from, enum layout to, metsovary_shape shape, memory matrix, memory work) {
+    memory a = memory_copy(matrix), w = memory_copy(work);
+    metsovary_result wanted = reference_rearrange(from, to, shape, a.values, a.length, w.values, w.length);
+    matrix_call call = to == BLOCKED ? metsovary_packed_to_blocked : metsovary_blocked_to_packed;
+    metsovary_result got = call(shape, matrix.values, matrix.length, work.values, work.length);
+    compared(to == BLOCKED ? "packed_to_blocked" : "blocked_to_packed", shape, got, wanted, memory_same(a, matrix) && memory_same(w, work));
+    memory_free(a);
+    memory_free(w);
+    return wanted;
+}
+
+metsovary_result compare_factor(enum layout layout, metsovary_shape shape, memory matrix, memory work) {
+    memory a = memory_copy(matrix), w = memory_copy(work);
+    metsovary_result wanted = reference_factor(layout, shape, a.values, a.length, w.values, w.length);
+    matrix_call call = layout == PACKED ? metsovary_factor_plain : metsovary_factor_blocked;
+    metsovary_result got = call(shape, matrix.values, matrix.length, work.values, work.length);
+    compared(layout == PACKED ? "factor_plain" : "factor_blocked", shape, got, wanted, memory_same(a, matrix) && memory_same(w, work));
+    memory_free(a);
+    memory_free(w);
+    return wanted;
+}
+
+metsovary_result compare_solve(enum layout layout, metsovary_shape shape, uint64_t m, memory matrix, memory x, memory work) {
+    memory a = memory_copy(matrix), s = memory_copy(x), w = memory_copy(work);
+    metsovary_result wanted = reference_solve(layout, shape, m, a.values, a.length, s.values, s.length, w.values, w.length);
+    metsovary_result got = layout == PACKED ? metsovary_solve_plain(shape, m, matrix.values, matrix.length, x.values, x.length, work.values, work.length)
+                                            : metsovary_solve_blocked(shape, m, matrix.values, matrix.length, x.values, x.length, work.values, work.length);
+    compared(layout == PACKED ? "solve_plain" : "solve_blocked", shape, got, wanted, memory_same(a, matrix) && memory_same(s, x) && memory_same(w, work));
+    memory_free(a);
+    memory_free(s);
+    memory_free(w);
+    return wanted;
+}

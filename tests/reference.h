@@ -1,0 +1,50 @@
+/* Another implementation of the six calls, by document 01's formulas and naive loops, with the processor's square root; and guarded memory to compare all of it. */
+#ifndef REFERENCE_H
+#define REFERENCE_H
+
+#include <stdbool.h>
+#include <stdio.h>
+#include <stdlib.h>
+#include <string.h>
+
+#include "../include/metsovary.h"
+
+enum layout { PACKED, BLOCKED };
+
+/* ---- document 01's places and rules ---- */
+
+size_t place(enum layout, metsovary_shape, size_t i, size_t j);
+metsovary_result reference_rearrange(enum layout from, enum layout to, metsovary_shape, double *matrix, size_t, double *work, size_t);
+metsovary_result reference_factor(enum layout, metsovary_shape, double *matrix, size_t, double *work, size_t);
+metsovary_result reference_solve(enum layout, metsovary_shape, uint64_t m, const double *matrix, size_t, double *x, size_t, double *work, size_t);
+
+/* ---- memory with guards on both sides ---- */
+
+typedef struct { double *all, *values; size_t length; } memory;
+
+memory memory_new(size_t length);
+memory memory_copy(memory);
+void memory_free(memory);
+bool memory_same(memory, memory);   /* every bit, guards included */
+
+/* ---- numbers ---- */
+
+uint64_t random_bits(void);         /* a fixed sequence */
+double random_unit(void);           /* between -1 and 1 */
+double from_bits(uint64_t);
+uint64_t to_bits(double);
+void fill_any(memory);              /* any bits: NaNs of all kinds, infinities, subnormals */
+
+/* ---- counting ---- */
+
+void group(const char *name);       /* ends the group before it: a group with no failure is one passed */
+bool expect(bool ok, const char *format, ...);
+int finish(void);                   /* prints 'N passed, M failed'; the exit status */
+
+/* Runs a call of the engine and of the reference on copies of the same memory and compares results and all memory. */
+typedef metsovary_result (*matrix_call)(metsovary_shape, double *, size_t, double *, size_t);
+metsovary_result compare_rearrange(enum layout from, enum layout to, metsovary_shape, memory matrix, memory work);
+metsovary_result compare_factor(enum layout, metsovary_shape, memory matrix, memory work);
+metsovary_result compare_solve(enum layout, metsovary_shape, uint64_t m, memory matrix, memory x, memory work);
+
+#endif
