@@ -1,0 +1,363 @@
+-- Laws of specs/Writing.antt and specs/Listing.antt: text after text, the digits of a number from the last up, and the lengths of lines. Assumes nothing.
+use Prim.Native.Nat.{ℕ, zero, suc, _+_, _-_, _*_, _/_, _%_, _^_, _≤_, _<_}
+use native.Mathlib.Nat.{pow-suc}
+use native.Mathlib.Numerals.{add-one}
+use native.Mathlib.Omega.{arith}
+use mathlib.Core.Path.{_≡_, refl, sym, ap, _∙_, subst}
+use mathlib.Core.Bool.{Bool, true, false, cond}
+use mathlib.Core.List.{List, [], _∷_, _++_, append-assoc, append-nil}
+use lib.Dec.{ltb, eqb}
+use lib.ListN.{length, getD, take, drop, set, length-append, length-drop, length-set}
+use lib.Seq.{length-take-le, take-length, take-all, take-at, drop-at, drop-drop, drop-cons, drop-length, drop-set-lt, getD-set-same, set-split, append-snoc, paste, paste-zero, paste-suc, length-paste}
+use lib.Ieee.{Float, nan, binary64, toBits}
+use borrow.Author.Tests.{lt-ltb, le-ltb, eq-eqb, ne-eqb}
+use lib.Pow.{pow-add}
+use Rattle.calls.specs.Sequences.{iterate, grow, tabulate}
+use Rattle.calls.proofs.Sequences.{length-tabulate}
+use Rattle.calls.specs.declared.CallResult.{CallResult}
+use Rattle.job.specs.declared.Sizes.{Sizes}
+use Rattle.job.specs.Writing.{overwrite, Written}
+use Rattle.job.specs.Listing.{digits, decimal, hexDigit, hexadecimal, jobLine, valueLine, valueLines, endLine, solutionLines, resultLines}
+
+-- ---- text after text
+
+module _ (memory : List ℕ) (at : ℕ) (text : List ℕ) (fits : at + length text ≤ length memory) where
+  length-front : length (take at memory ++ text) ≡ at + length text
+  length-front = length-append (take at memory) text ∙ ap (λ (k : ℕ). k + length text) (length-take-le at memory (omega arith))
+
+  pub length-overwrite : length (overwrite at text memory) ≡ length memory
+  length-overwrite =
+      length-append (take at memory ++ text) (drop (at + length text) memory) ∙ ap (λ (k : ℕ). k + length (drop (at + length text) memory)) length-front
+      ∙ ap (λ (k : ℕ). at + length text + k) (length-drop (at + length text) memory) ∙ omega arith
+
+  overwrite-twice : (more : List ℕ) → overwrite (at + length text) more (overwrite at text memory) ≡ overwrite at (text ++ more) memory
+  overwrite-twice more =
+      let front : List ℕ = take at memory ++ text in
+      let rest : List ℕ = drop (at + length text) memory in
+      let e : at + length (text ++ more) ≡ at + length text + length more = omega (arith, length-append text more) in
+      let t : take (at + length text) (front ++ rest) ≡ front = take-at front rest (at + length text) length-front in
+      let d : drop (at + length text + length more) (front ++ rest) ≡ drop (at + length text + length more) memory =
+      sym (drop-drop (length more) (at + length text) (front ++ rest))
+      ∙ ap (drop (length more)) (drop-at front rest (at + length text) length-front)
+      ∙ drop-drop (length more) (at + length text) memory in
+      rw (t, d, e, append-assoc (take at memory) text more)
+
+-- what is written, and then what is written after it
+pub then : {at mid end : ℕ} {text more a b c : List ℕ} → Written at text a mid b → Written mid more b end c → at + length text ≤ length a → Written at (text ++ more) a end c
+then {at} {mid} {end} {text} {more} {a} {b} {c} w v h =
+    let n = w .next in
+    let l : length (text ++ more) ≡ length text + length more = length-append text more in
+    record {
+      next = omega (arith, w .next, v .next, l);
+      memory = v .memory ∙ ap (λ (k : ℕ). overwrite k more b) n ∙ ap (λ (m : List ℕ). overwrite (at + length text) more m) (w .memory) ∙ overwrite-twice a at text h more;
+    }
+
+pub as-text : {at end : ℕ} {text text′ a b : List ℕ} → text ≡ text′ → Written at text a end b → Written at text′ a end b
+as-text {at} {end} {text} {text′} {a} {b} e w = subst (λ (t : List ℕ). Written at t a end b) e w
+
+pub length-written : {at end : ℕ} {text a b : List ℕ} → at + length text ≤ length a → Written at text a end b → length b ≡ length a
+length-written {at} {end} {text} {a} {b} h w = ap length (w .memory) ∙ length-overwrite a at text h
+
+pub nothing-written : (at : ℕ) (a : List ℕ) → Written at [] a at a
+nothing-written at a = record { next = omega arith; memory = paste-zero a at [] }
+
+pub byte-written : (a : List ℕ) (at b : ℕ) → at < length a → Written at (b ∷ []) a (at + 1) (set a at b)
+byte-written a at b h =
+    record {
+      next = refl;
+      memory = set-split a at b h ∙ ap (λ (k : ℕ). take at a ++ b ∷ drop k a) (sym (add-one at)) ∙ sym (append-snoc (take at a) b (drop (at + 1) a));
+    }
+
+-- a loop that copies a text: i bytes of it are there
+module _ (a : List ℕ) (at : ℕ) (text : List ℕ) (fits : at + length text ≤ length a) (out : List ℕ) (i : ℕ) (copied : out ≡ paste a at text i) where
+  pub length-copied : i ≤ length text → length out ≡ length a
+  length-copied h = ap length copied ∙ length-paste a at text i (omega arith) h
+
+  pub copy-turn : i < length text → set out (at + i) (getD text i 0) ≡ paste a at text (i + 1)
+  copy-turn h =
+      ap (λ (m : List ℕ). set m (at + i) (getD text i 0)) copied ∙ paste-suc a at text i 0 (omega arith) h ∙ ap (paste a at text) (sym (add-one i))
+
+  pub copy-done : i ≤ length text → length text ≤ i → Written at text a (at + i) out
+  copy-done h k =
+      let e : i ≡ length text = omega arith in
+      record {
+        next = ap (λ (j : ℕ). at + j) e;
+        memory = copied ∙ ap (paste a at text) e ∙ ap (λ (t : List ℕ). take at a ++ t ++ drop (at + length text) a) (take-length text);
+      }
+
+-- ---- hexadecimal digits
+
+pow-four : (k : ℕ) → 2 ^ (4 * k) ≡ 16 ^ k
+pow-four zero = refl
+pow-four (suc k) =
+    let e : 4 * suc k ≡ 4 * k + 4 = omega arith in
+    ap (λ (j : ℕ). 2 ^ j) e ∙ pow-add 2 (4 * k) 4 ∙ ap (λ (x : ℕ). x * 16) (pow-four k) ∙ sym (pow-suc 16 k)
+
+-- the first count digits of a pattern
+abbrev pub hexDigits : ℕ → ℕ → List ℕ
+hexDigits bits count = tabulate count (λ i. hexDigit (bits / 16 ^ (15 - i) % 16))
+
+pub hex-turn :
+    (a out : List ℕ) (at bits i d : ℕ) →
+    at + 16 ≤ length a →
+    i < 16 →
+    Written at (hexDigits bits i) a (at + i) out →
+    d ≡ hexDigit (bits / 2 ^ (60 - 4 * i) % 16) →
+    Written at (hexDigits bits (i + 1)) a (at + (i + 1)) (set out (at + i) d)
+unfolding tabulate grow
+hex-turn a out at bits i d h l w e =
+    let f : ℕ → ℕ = λ j. hexDigit (bits / 16 ^ (15 - j) % 16) in
+    let n : length (tabulate i f) ≡ i = length-tabulate f i in
+    let k : 60 - 4 * i ≡ 4 * (15 - i) = omega arith in
+    let v : d ≡ f i = e ∙ ap (λ (x : ℕ). hexDigit (bits / x % 16)) (ap (λ (j : ℕ). 2 ^ j) k ∙ pow-four (15 - i)) in
+    let fits : at + length (tabulate i f) ≤ length a = omega arith in
+    let len : length out ≡ length a = length-written fits w in
+    let both : Written at (tabulate i f ++ (d ∷ [])) a (at + i + 1) (set out (at + i) d) = then w (byte-written out (at + i) d (omega arith)) fits in
+    let p : at + (i + 1) ≡ at + i + 1 = omega arith in
+    let t : tabulate (i + 1) f ≡ tabulate i f ++ (d ∷ []) = ap (λ (j : ℕ). tabulate j f) (add-one i) ∙ ap (λ (x : ℕ). tabulate i f ++ (x ∷ [])) (sym v) in
+    rw (p, t) both
+
+pub hex-start : (a : List ℕ) (at bits : ℕ) → Written at (hexDigits bits 0) a (at + 0) a
+unfolding tabulate grow
+hex-start a at bits = let e : at + 0 ≡ at = omega arith in rw e (nothing-written at a)
+
+pub length-hex : (a out : List ℕ) (at bits i : ℕ) → at + 16 ≤ length a → i ≤ 16 → Written at (hexDigits bits i) a (at + i) out → length out ≡ length a
+length-hex a out at bits i h l w = length-written (omega (arith, length-tabulate (λ j. hexDigit (bits / 16 ^ (15 - j) % 16)) i)) w
+
+pub hex-done :
+    (a out : List ℕ) (at bits i : ℕ) (v : Float) →
+    bits ≡ toBits binary64 v →
+    i ≤ 16 →
+    16 ≤ i →
+    Written at (hexDigits bits i) a (at + i) out →
+    Written at (hexadecimal v) a (at + i) out
+unfolding hexadecimal
+hex-done a out at bits i v e l h w =
+    let s : i ≡ 16 = omega arith in
+    as-text (ap (hexDigits bits) s ∙ ap (λ (x : ℕ). hexDigits x 16) e) w
+
+-- ---- decimal digits, from the last up
+
+-- the digits of what is left and those that stand from i on are those of n
+pub record DigitsUp (n left i : ℕ) (buffer : List ℕ) : Type 0 where
+  pub size : length buffer ≡ 20
+  pub within : i ≤ 20
+  pub some : 0 < i
+  pub short : left < 10 ^ i
+  pub text : digits i left ++ drop i buffer ≡ decimal n
+
+pub digits-none : (n : ℕ) (buffer : List ℕ) → n < 2 ^ 64 → length buffer ≡ 20 → DigitsUp n n (length buffer) buffer
+unfolding decimal
+digits-none n buffer h e =
+    rw e (record { size = e; within = omega arith; some = omega arith; short = omega arith; text = ap (λ (k : ℕ). digits 20 n ++ drop k buffer) (sym e) ∙ rw drop-length (append-nil (digits 20 n)) })
+
+drop-set : (l : List ℕ) (j a : ℕ) → j < length l → drop j (set l j a) ≡ a ∷ drop (suc j) l
+drop-set l j a h =
+    drop-cons (set l j a) j a (omega (arith, length-set l j a))
+    ∙ ap (λ (x : ℕ). x ∷ drop (suc j) (set l j a)) (getD-set-same l j a a h)
+    ∙ ap (λ (r : List ℕ). a ∷ r) (drop-set-lt (suc j) l j a (omega arith))
+
+two-left : (left i : ℕ) → 10 ≤ left → left < 10 ^ i → 1 < i
+two-left left zero h l = absurd (omega arith)
+two-left left (suc zero) h l = absurd (omega arith)
+two-left left (suc (suc j)) h l = omega arith
+
+digits-more : (k n : ℕ) → 10 ≤ n → digits (suc k) n ≡ digits k (n / 10) ++ ((48 + n % 10) ∷ [])
+unfolding digits
+digits-more k n h = rw (le-ltb n 10 h)
+
+digits-last : (k n : ℕ) → n < 10 → digits (suc k) n ≡ (48 + n) ∷ []
+unfolding digits
+digits-last k n h = rw (lt-ltb n 10 h)
+
+-- a turn of the loop, and the store after it
+module _ (n left i : ℕ) (buffer : List ℕ) (u : DigitsUp n left i buffer) where
+  pub more-left : 10 ≤ left → 1 < i
+  more-left h = two-left left i h (u .short)
+
+  stored : (d : ℕ) → drop (i - 1) (set buffer (i - 1) d) ≡ d ∷ drop i buffer
+  stored d =
+      let s : suc (i - 1) ≡ i = omega (arith, u .some) in
+      drop-set buffer (i - 1) d (omega (arith, u .size, u .within, u .some)) ∙ ap (λ (k : ℕ). d ∷ drop k buffer) s
+
+  pub digits-turn : (d : ℕ) → 10 ≤ left → d ≡ 48 + left % 10 → DigitsUp n (left / 10) (i - 1) (set buffer (i - 1) d)
+  digits-turn d h e =
+      let s : i ≡ suc (i - 1) = omega (arith, u .some) in
+      let p : 10 ^ i ≡ 10 ^ (i - 1) * 10 = ap (λ (k : ℕ). 10 ^ k) s ∙ pow-suc 10 (i - 1) in
+      let t : digits i left ≡ digits (i - 1) (left / 10) ++ ((48 + left % 10) ∷ []) = ap (λ (k : ℕ). digits k left) s ∙ digits-more (i - 1) left h in
+      record {
+        size = length-set buffer (i - 1) d ∙ u .size;
+        within = omega (arith, u .within);
+        some = omega (arith, more-left h);
+        short = omega (arith, p, u .short);
+        text =
+            ap (λ (r : List ℕ). digits (i - 1) (left / 10) ++ r) (stored d ∙ ap (λ (x : ℕ). x ∷ drop i buffer) e)
+            ∙ sym (append-snoc (digits (i - 1) (left / 10)) (48 + left % 10) (drop i buffer))
+            ∙ ap (λ (r : List ℕ). r ++ drop i buffer) (sym t)
+            ∙ u .text;
+      }
+
+  pub digits-end : (d : ℕ) → left < 10 → d ≡ 48 + left → drop (i - 1) (set buffer (i - 1) d) ≡ decimal n
+  digits-end d h e =
+      let s : i ≡ suc (i - 1) = omega (arith, u .some) in
+      stored d ∙ ap (λ (x : ℕ). x ∷ drop i buffer) e ∙ ap (λ (r : List ℕ). r ++ drop i buffer) (sym (ap (λ (k : ℕ). digits k left) s ∙ digits-last (i - 1) left h)) ∙ u .text
+
+-- ---- the lengths of texts
+
+length-digits : (k n : ℕ) → length (digits k n) ≤ k
+unfolding digits
+length-digits zero n = omega arith
+length-digits (suc k) n = go (ltb n 10) (length-digits k (n / 10))
+  where
+    go : (b : Bool) → length (digits k (n / 10)) ≤ k → length (cond b ((48 + n) ∷ []) (digits k (n / 10) ++ ((48 + n % 10) ∷ []))) ≤ suc k
+    go true h = omega arith
+    go false h = omega (arith, length-append (digits k (n / 10)) ((48 + n % 10) ∷ []))
+
+pub length-decimal : (n : ℕ) → length (decimal n) ≤ 20
+unfolding decimal
+length-decimal n = length-digits 20 n
+
+pub length-hexadecimal : (v : Float) → length (hexadecimal v) ≡ 16
+unfolding hexadecimal
+length-hexadecimal v = length-tabulate (λ i. hexDigit (toBits binary64 v / 16 ^ (15 - i) % 16)) 16
+
+pub length-jobLine : (n b m : ℕ) → length (jobLine n b m) ≡ 7 + length (decimal n) + length (decimal b) + length (decimal m)
+unfolding jobLine
+length-jobLine n b m = simp length-append (omega arith)
+
+pub length-endLine : (code place : ℕ) → length (endLine code place) ≡ 6 + length (decimal code) + length (decimal place)
+unfolding endLine
+length-endLine code place = simp length-append (omega arith)
+
+-- ---- lines as the texts that they are written by
+
+-- the buffer's digits, lent from the first of them on
+pub tail-text : (buffer : List ℕ) (r n : ℕ) → length buffer ≡ 20 → r ≤ 20 → drop r buffer ≡ decimal n → take (20 - r) (drop r buffer) ≡ decimal n
+tail-text buffer r n h l e = take-all (20 - r) (drop r buffer) (omega (arith, length-drop r buffer)) ∙ e
+
+-- a number and the byte that ends it, and the heads of lines
+abbrev pub numberText : ℕ → ℕ → List ℕ
+numberText n end = decimal n ++ (end ∷ [])
+
+abbrev pub jobHead : List ℕ
+jobHead = 74 ∷ 79 ∷ 66 ∷ 32 ∷ []
+
+abbrev pub endHead : List ℕ
+endHead = 69 ∷ 78 ∷ 68 ∷ 32 ∷ []
+
+pub job-text : (n b m : ℕ) → jobHead ++ numberText n 32 ++ numberText b 32 ++ numberText m 10 ≡ jobLine n b m
+unfolding jobLine
+job-text n b m = simp append-assoc
+
+pub end-text : (code place : ℕ) → endHead ++ numberText code 32 ++ numberText place 10 ≡ endLine code place
+unfolding endLine
+end-text code place = simp append-assoc
+
+-- ---- lines of values
+
+module _ (head : List ℕ) (vs : List Float) where
+  -- the lines of the first k values
+  abbrev pub linesTo : ℕ → List ℕ
+  linesTo k = iterate (λ j lines. lines ++ valueLine head (getD vs j nan)) k []
+
+  length-line : length head ≡ 2 → (v : Float) → length (valueLine head v) ≡ 19
+  unfolding valueLine
+  length-line h v = simp length-append (omega (arith, length-hexadecimal v))
+
+  pub length-lines : length head ≡ 2 → (k : ℕ) → length (linesTo k) ≡ 19 * k
+  unfolding iterate
+  length-lines h zero = refl
+  length-lines h (suc k) =
+      length-append (linesTo k) (valueLine head (getD vs k nan)) ∙ omega (arith, length-lines h k, length-line h (getD vs k nan))
+
+  pub lines-none : (at : ℕ) (a : List ℕ) → Written at (linesTo 0) a at a
+  unfolding iterate
+  lines-none at a = nothing-written at a
+
+  pub lines-turn :
+      (at next end k : ℕ) (a b c : List ℕ) →
+      length head ≡ 2 →
+      at + 19 * length vs ≤ length a →
+      k < length vs →
+      Written at (linesTo k) a next b →
+      Written next (valueLine head (getD vs k nan)) b end c →
+      Written at (linesTo (k + 1)) a end c
+  unfolding iterate
+  lines-turn at next end k a b c h f l w v =
+      let s : k + 1 ≡ suc k = add-one k in
+      rw s (then w v (omega (arith, length-lines h k)))
+
+  pub lines-all : (at end k : ℕ) (a b : List ℕ) → k ≤ length vs → length vs ≤ k → Written at (linesTo k) a end b → Written at (valueLines head vs) a end b
+  unfolding valueLines
+  lines-all at end k a b h l w = let e : k ≡ length vs = omega arith in as-text (ap linesTo e) w
+
+pub length-valueLines : (head : List ℕ) (vs : List Float) → length head ≡ 2 → length (valueLines head vs) ≡ 19 * length vs
+unfolding valueLines
+length-valueLines head vs h = length-lines head vs h (length vs)
+
+pub length-join : (at : ℕ) (head : List ℕ) (v : Float) (a : List ℕ) → length head ≡ 2 → at + 19 ≤ length a → at + length (head ++ hexadecimal v) ≤ length a
+length-join at head v a h l = omega (arith, length-append head (hexadecimal v), length-hexadecimal v)
+
+pub length-number : (n end : ℕ) → length (numberText n end) ≡ length (decimal n) + 1
+length-number n end = length-append (decimal n) (end ∷ [])
+
+-- where a line fits, so does what it begins with
+prefix-fits : (at : ℕ) (a text more line : List ℕ) → text ++ more ≡ line → at + length line ≤ length a → at + length text ≤ length a
+prefix-fits at a text more line e h = omega (arith, length-append text more, ap length e)
+
+module _ (at n b m : ℕ) (a : List ℕ) (h : at + length (jobLine n b m) ≤ length a) where
+  pub job-fits-block : at + length (jobHead ++ numberText n 32 ++ numberText b 32) ≤ length a
+  job-fits-block = prefix-fits at a (jobHead ++ numberText n 32 ++ numberText b 32) (numberText m 10) (jobLine n b m) (job-text n b m) h
+
+  pub job-fits-order : at + length (jobHead ++ numberText n 32) ≤ length a
+  job-fits-order = prefix-fits at a (jobHead ++ numberText n 32) (numberText b 32) (jobHead ++ numberText n 32 ++ numberText b 32) refl job-fits-block
+
+module _ (at code place : ℕ) (a : List ℕ) (h : at + length (endLine code place) ≤ length a) where
+  pub end-fits-code : at + length (endHead ++ numberText code 32) ≤ length a
+  end-fits-code = prefix-fits at a (endHead ++ numberText code 32) (numberText place 10) (endLine code place) (end-text code place) h
+
+-- ---- the listing's parts
+
+module _ (matrix rhs : List Float) where
+  pub length-solutionLines : length (solutionLines matrix rhs) ≡ 19 * length matrix + 19 * length rhs
+  unfolding solutionLines
+  length-solutionLines =
+      length-append (valueLines (70 ∷ 32 ∷ []) matrix) (valueLines (88 ∷ 32 ∷ []) rhs)
+      ∙ omega (arith, length-valueLines (70 ∷ 32 ∷ []) matrix refl, length-valueLines (88 ∷ 32 ∷ []) rhs refl)
+
+  module _ (sizes : Sizes) (result : CallResult) where
+    pub refused-lines : (result .code ≡ 0 → ⊥) → jobLine (sizes .order) (sizes .block) (sizes .count) ++ endLine (result .code) (result .place) ≡ resultLines sizes result matrix rhs
+    unfolding resultLines
+    refused-lines h = rw (ne-eqb (result .code) 0 h, append-nil (jobLine (sizes .order) (sizes .block) (sizes .count)))
+
+    pub accepted-lines : result .code ≡ 0 → jobLine (sizes .order) (sizes .block) (sizes .count) ++ solutionLines matrix rhs ++ endLine (result .code) (result .place) ≡ resultLines sizes result matrix rhs
+    unfolding resultLines
+    accepted-lines h = rw (eq-eqb (result .code) 0 h)
+
+  module _ (sizes : Sizes) (result : CallResult) (a : List ℕ) (fits : length (resultLines sizes result matrix rhs) ≤ length a) where
+    pub job-fits : length (jobLine (sizes .order) (sizes .block) (sizes .count)) ≤ length a
+    unfolding resultLines
+    job-fits =
+        omega (
+          arith,
+          length-append (jobLine (sizes .order) (sizes .block) (sizes .count) ++ cond (eqb (result .code) 0) (solutionLines matrix rhs) []) (endLine (result .code) (result .place)),
+          length-append (jobLine (sizes .order) (sizes .block) (sizes .count)) (cond (eqb (result .code) 0) (solutionLines matrix rhs) []),
+        )
+
+    pub refused-fits : (result .code ≡ 0 → ⊥) → length (jobLine (sizes .order) (sizes .block) (sizes .count)) + length (endLine (result .code) (result .place)) ≤ length a
+    refused-fits h =
+        omega (arith, length-append (jobLine (sizes .order) (sizes .block) (sizes .count)) (endLine (result .code) (result .place)), ap length (refused-lines sizes result h))
+
+    pub accepted-fits :
+        result .code ≡ 0 →
+        length (jobLine (sizes .order) (sizes .block) (sizes .count)) + length (solutionLines matrix rhs) + length (endLine (result .code) (result .place)) ≤ length a
+    accepted-fits h =
+        omega (
+          arith,
+          length-append (jobLine (sizes .order) (sizes .block) (sizes .count) ++ solutionLines matrix rhs) (endLine (result .code) (result .place)),
+          length-append (jobLine (sizes .order) (sizes .block) (sizes .count)) (solutionLines matrix rhs),
+          ap length (accepted-lines sizes result h),
+        )
+
+    pub two-fit : result .code ≡ 0 → 0 + length (jobLine (sizes .order) (sizes .block) (sizes .count) ++ solutionLines matrix rhs) ≤ length a
+    two-fit h = omega (arith, accepted-fits h, length-append (jobLine (sizes .order) (sizes .block) (sizes .count)) (solutionLines matrix rhs))

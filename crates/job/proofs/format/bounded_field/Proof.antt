@@ -1,0 +1,40 @@
+-- `job::format::bounded_field` meets its contract. Each way out is one case of `bounded`. Assumes nothing.
+use mathlib.Core.Path.{sym, ap, _∙_}
+use Rattle.job.specs.Reading.{parsedField}
+use Rattle.job.proofs.Fields.{bounded-fault, bounded-low, bounded-high, bounded-in}
+use borrow.Author.Needs.{needs}
+use Rattle.job.proofs.format.bounded_field.Statement.{statement}
+use Rattle.job.proofs.format.bounded_field.Tie as tie
+
+read-field-requires : tie.Need-read-field-requires
+read-field-requires c κs = search needs
+
+enum-known-value : tie.Need-enum-known-value
+enum-known-value c = search needs
+
+returns : tie.Need-returns
+returns c = bounded-low (c .before .before .before .before .before .before .args .file .now) (c .before .before .before .before .before .before .args .at) (c .before .before .before .before .before .before .args .width) (c .before .before .before .before .before .before .args .low) (c .before .before .before .before .before .before .args .high) (c .before .before .value .given .0 .0) (c .before .before .value .given .0 .1 .0) (sym (ap parsedField (c .before .before .value .given .1)) ∙ (c .before .before .before .before .read-field .ensures)) (c .if1 .taken)
+
+returns-2 : tie.Need-returns-2
+returns-2 c = bounded-high (c .before .before .before .before .before .before .before .args .file .now) (c .before .before .before .before .before .before .before .args .at) (c .before .before .before .before .before .before .before .args .width) (c .before .before .before .before .before .before .before .args .low) (c .before .before .before .before .before .before .before .args .high) (c .before .before .before .value .given .0 .0) (c .before .before .before .value .given .0 .1 .0) (sym (ap parsedField (c .before .before .before .value .given .1)) ∙ (c .before .before .before .before .before .read-field .ensures)) (c .before .if1 .left) (c .if2 .taken)
+
+enum-known-place : tie.Need-enum-known-place
+enum-known-place c = search needs
+
+returns-3 : tie.Need-returns-3
+returns-3 c = bounded-in (c .before .before .before .before .before .before .before .args .file .now) (c .before .before .before .before .before .before .before .args .at) (c .before .before .before .before .before .before .before .args .width) (c .before .before .before .before .before .before .before .args .low) (c .before .before .before .before .before .before .before .args .high) (c .before .before .before .value .given .0 .0) (c .before .before .before .value .given .0 .1 .0) (sym (ap parsedField (c .before .before .before .value .given .1)) ∙ (c .before .before .before .before .before .read-field .ensures)) (c .before .if1 .left) (c .if2 .left)
+
+returns-4 : tie.Need-returns-4
+returns-4 c = bounded-fault (c .before .before .before .before .before .args .file .now) (c .before .before .before .before .before .args .at) (c .before .before .before .before .before .args .width) (c .before .before .before .before .before .args .low) (c .before .before .before .before .before .args .high) (c .before .place .given .0 .0) (sym (ap parsedField (c .before .place .given .1)) ∙ (c .before .before .before .read-field .ensures))
+
+pub bounded-field-spec : {M : Type 1} → statement M
+bounded-field-spec =
+    tie.close
+    (tie.spec
+    read-field-requires
+    enum-known-value
+    returns
+    returns-2
+    enum-known-place
+    returns-3
+    returns-4)

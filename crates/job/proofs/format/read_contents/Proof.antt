@@ -1,0 +1,81 @@
+-- `job::format::read_contents` meets its contract. Each way out is one case of `readValues`. Assumes nothing.
+use mathlib.Core.Path.{sym, ap, _∙_}
+use lib.ListN.{length}
+use Rattle.job.specs.Format.{parsedAs}
+use Rattle.job.proofs.Formats.{contents-fault-matrix, contents-fault-rhs, contents-extra, contents-found}
+use borrow.Author.Needs.{needs}
+use Rattle.job.proofs.format.read_contents.Statement.{statement}
+use Rattle.job.proofs.format.read_contents.Tie as tie
+
+read-values-requires : tie.Need-read-values-requires
+read-values-requires c κs = search needs
+
+enum-known-place : tie.Need-enum-known-place
+enum-known-place c = search needs
+
+enum-known-at : tie.Need-enum-known-at
+enum-known-at c = search needs
+
+read-values-requires-2 : tie.Need-read-values-requires-2
+read-values-requires-2 c κs = search needs
+
+enum-known-place-2 : tie.Need-enum-known-place-2
+enum-known-place-2 c = search needs
+
+enum-known-at-2 : tie.Need-enum-known-at-2
+enum-known-at-2 c = search needs
+
+same-length : tie.Need-same-length
+same-length c = search needs
+
+same-length-2 : tie.Need-same-length-2
+same-length-2 c = search needs
+
+returns : tie.Need-returns
+returns c = contents-found (c .before .before .before .before .before .before .before .before .before .before .before .before .before .before .before .before .before .before .args .file .now) (c .before .before .before .before .before .before .before .before .before .before .before .before .before .before .before .before .before .before .args .sizes) (c .before .before .before .before .before .before .before .before .before .before .before .before .before .before .before .before .before .before .args .at) (length (c .before .before .before .before .before .before .before .before .before .before .before .before .before .before .before .before .before .before .args .matrix .now)) (c .before .before .before .before .before .before .before .before .before .at .given .0 .0) (c .before .before .before .before .before .before .before .before .before .before .before .before .before .read-values .last .1 .1 .1 .0) (c .before .before .before .before .before .before .before .before .before .before .before .before .before .before .before .before .before .before .pre .0) (sym (ap (parsedAs (c .before .before .before .before .before .before .before .before .before .before .before .before .before .read-values .last .1 .1 .1 .0)) (c .before .before .before .before .before .before .before .before .before .at .given .1)) ∙ (c .before .before .before .before .before .before .before .before .before .before .before .before .before .read-values .ensures)) (length (c .before .before .before .before .before .before .before .before .before .before .before .before .before .before .before .before .before .before .args .rhs .now)) (c .before .before .before .before .before .before .before .before .before .before .before .before .before .before .before .before .before .before .pre .1) (c .before .before .at2 .given .0 .0) (c .before .before .before .before .before .before .read-values2 .last .1 .1 .1 .0) (sym (ap (parsedAs (c .before .before .before .before .before .before .read-values2 .last .1 .1 .1 .0)) (c .before .before .at2 .given .1)) ∙ (c .before .before .before .before .before .before .read-values2 .ensures)) (c .if1 .taken)
+
+same-length-3 : tie.Need-same-length-3
+same-length-3 c = search needs
+
+returns-2 : tie.Need-returns-2
+returns-2 c = contents-fault-matrix (c .before .before .before .before .before .before .before .before .before .before .args .file .now) (c .before .before .before .before .before .before .before .before .before .before .args .sizes) (c .before .before .before .before .before .before .before .before .before .before .args .at) (length (c .before .before .before .before .before .before .before .before .before .before .args .matrix .now)) (c .before .place .given .0 .0) (c .before .before .before .before .before .before .before .before .before .before .pre .0) (sym (ap (parsedAs (c .before .before .before .before .before .read-values .last .1 .1 .1 .0)) (c .before .place .given .1)) ∙ (c .before .before .before .before .before .read-values .ensures))
+
+same-length-4 : tie.Need-same-length-4
+same-length-4 c = search needs
+
+same-length-5 : tie.Need-same-length-5
+same-length-5 c = search needs
+
+returns-3 : tie.Need-returns-3
+returns-3 c = contents-fault-rhs (c .before .before .before .before .before .before .before .before .before .before .before .before .before .before .before .before .before .args .file .now) (c .before .before .before .before .before .before .before .before .before .before .before .before .before .before .before .before .before .args .sizes) (c .before .before .before .before .before .before .before .before .before .before .before .before .before .before .before .before .before .args .at) (length (c .before .before .before .before .before .before .before .before .before .before .before .before .before .before .before .before .before .args .matrix .now)) (c .before .before .before .before .before .before .before .before .at .given .0 .0) (c .before .before .before .before .before .before .before .before .before .before .before .before .read-values .last .1 .1 .1 .0) (c .before .before .before .before .before .before .before .before .before .before .before .before .before .before .before .before .before .pre .0) (sym (ap (parsedAs (c .before .before .before .before .before .before .before .before .before .before .before .before .read-values .last .1 .1 .1 .0)) (c .before .before .before .before .before .before .before .before .at .given .1)) ∙ (c .before .before .before .before .before .before .before .before .before .before .before .before .read-values .ensures)) (length (c .before .before .before .before .before .before .before .before .before .before .before .before .before .before .before .before .before .args .rhs .now)) (c .before .before .before .before .before .before .before .before .before .before .before .before .before .before .before .before .before .pre .1) (c .before .place2 .given .0 .0) (sym (ap (parsedAs (c .before .before .before .before .before .read-values2 .last .1 .1 .1 .0)) (c .before .place2 .given .1)) ∙ (c .before .before .before .before .before .read-values2 .ensures))
+
+same-length-6 : tie.Need-same-length-6
+same-length-6 c = search needs
+
+same-length-7 : tie.Need-same-length-7
+same-length-7 c = search needs
+
+returns-4 : tie.Need-returns-4
+returns-4 c = contents-extra (c .before .before .before .before .before .before .before .before .before .before .before .before .before .before .before .before .before .before .args .file .now) (c .before .before .before .before .before .before .before .before .before .before .before .before .before .before .before .before .before .before .args .sizes) (c .before .before .before .before .before .before .before .before .before .before .before .before .before .before .before .before .before .before .args .at) (length (c .before .before .before .before .before .before .before .before .before .before .before .before .before .before .before .before .before .before .args .matrix .now)) (c .before .before .before .before .before .before .before .before .before .at .given .0 .0) (c .before .before .before .before .before .before .before .before .before .before .before .before .before .read-values .last .1 .1 .1 .0) (c .before .before .before .before .before .before .before .before .before .before .before .before .before .before .before .before .before .before .pre .0) (sym (ap (parsedAs (c .before .before .before .before .before .before .before .before .before .before .before .before .before .read-values .last .1 .1 .1 .0)) (c .before .before .before .before .before .before .before .before .before .at .given .1)) ∙ (c .before .before .before .before .before .before .before .before .before .before .before .before .before .read-values .ensures)) (length (c .before .before .before .before .before .before .before .before .before .before .before .before .before .before .before .before .before .before .args .rhs .now)) (c .before .before .before .before .before .before .before .before .before .before .before .before .before .before .before .before .before .before .pre .1) (c .before .before .at2 .given .0 .0) (c .before .before .before .before .before .before .read-values2 .last .1 .1 .1 .0) (sym (ap (parsedAs (c .before .before .before .before .before .before .read-values2 .last .1 .1 .1 .0)) (c .before .before .at2 .given .1)) ∙ (c .before .before .before .before .before .before .read-values2 .ensures)) (c .if1 .left)
+
+pub read-contents-spec : {M : Type 1} → statement M
+read-contents-spec =
+    tie.close
+    (tie.spec
+    read-values-requires
+    enum-known-place
+    enum-known-at
+    read-values-requires-2
+    enum-known-place-2
+    enum-known-at-2
+    same-length
+    same-length-2
+    returns
+    same-length-3
+    returns-2
+    same-length-4
+    same-length-5
+    returns-3
+    same-length-6
+    same-length-7
+    returns-4)

@@ -1,0 +1,64 @@
+-- `job::format::read_sizes` meets its contract. Each way out is one case of `readSizes`. Assumes nothing.
+use mathlib.Core.Path.{sym, ap, _∙_}
+use Rattle.job.specs.Reading.{parsedField}
+use Rattle.job.proofs.Formats.{sizes-fault-order, sizes-fault-block, sizes-fault-count, sizes-found}
+use borrow.Author.Needs.{needs}
+use Rattle.job.proofs.format.read_sizes.Statement.{statement}
+use Rattle.job.proofs.format.read_sizes.Tie as tie
+
+bounded-field-requires : tie.Need-bounded-field-requires
+bounded-field-requires c κs = search needs
+
+enum-known-place : tie.Need-enum-known-place
+enum-known-place c = search needs
+
+enum-known-order : tie.Need-enum-known-order
+enum-known-order c = search needs
+
+bounded-field-requires-2 : tie.Need-bounded-field-requires-2
+bounded-field-requires-2 c κs = search needs
+
+enum-known-place-2 : tie.Need-enum-known-place-2
+enum-known-place-2 c = search needs
+
+enum-known-block : tie.Need-enum-known-block
+enum-known-block c = search needs
+
+bounded-field-requires-3 : tie.Need-bounded-field-requires-3
+bounded-field-requires-3 c κs = search needs
+
+enum-known-place-3 : tie.Need-enum-known-place-3
+enum-known-place-3 c = search needs
+
+enum-known-count : tie.Need-enum-known-count
+enum-known-count c = search needs
+
+returns : tie.Need-returns
+returns c = sizes-fault-order (c .before .before .before .before .before .args .file .now) (c .before .place .given .0 .0) (sym (ap parsedField (c .before .place .given .1)) ∙ (c .before .before .before .bounded-field .ensures))
+
+returns-2 : tie.Need-returns-2
+returns-2 c = sizes-fault-block (c .before .before .before .before .before .before .before .before .before .args .file .now) (c .before .before .before .before .before .order .given .0 .0) (c .before .before .before .before .before .order .given .0 .1 .0) (sym (ap parsedField (c .before .before .before .before .before .order .given .1)) ∙ (c .before .before .before .before .before .before .before .bounded-field .ensures)) (c .before .place2 .given .0 .0) (sym (ap parsedField (c .before .place2 .given .1)) ∙ (c .before .before .before .bounded-field2 .ensures))
+
+returns-3 : tie.Need-returns-3
+returns-3 c = sizes-fault-count (c .before .before .before .before .before .before .before .before .before .before .before .before .before .args .file .now) (c .before .before .before .before .before .before .before .before .before .order .given .0 .0) (c .before .before .before .before .before .before .before .before .before .order .given .0 .1 .0) (sym (ap parsedField (c .before .before .before .before .before .before .before .before .before .order .given .1)) ∙ (c .before .before .before .before .before .before .before .before .before .before .before .bounded-field .ensures)) (c .before .before .before .before .before .block .given .0 .0) (c .before .before .before .before .before .block .given .0 .1 .0) (sym (ap parsedField (c .before .before .before .before .before .block .given .1)) ∙ (c .before .before .before .before .before .before .before .bounded-field2 .ensures)) (c .before .place3 .given .0 .0) (sym (ap parsedField (c .before .place3 .given .1)) ∙ (c .before .before .before .bounded-field3 .ensures))
+
+returns-4 : tie.Need-returns-4
+returns-4 c = sizes-found (c .before .before .before .before .before .before .before .before .before .before .before .before .before .args .file .now) (c .before .before .before .before .before .before .before .before .before .order .given .0 .0) (c .before .before .before .before .before .before .before .before .before .order .given .0 .1 .0) (sym (ap parsedField (c .before .before .before .before .before .before .before .before .before .order .given .1)) ∙ (c .before .before .before .before .before .before .before .before .before .before .before .bounded-field .ensures)) (c .before .before .before .before .before .block .given .0 .0) (c .before .before .before .before .before .block .given .0 .1 .0) (sym (ap parsedField (c .before .before .before .before .before .block .given .1)) ∙ (c .before .before .before .before .before .before .before .bounded-field2 .ensures)) (c .before .count .given .0 .0) (c .before .count .given .0 .1 .0) (sym (ap parsedField (c .before .count .given .1)) ∙ (c .before .before .before .bounded-field3 .ensures))
+
+pub read-sizes-spec : {M : Type 1} → statement M
+read-sizes-spec =
+    tie.close
+    (tie.spec
+    bounded-field-requires
+    enum-known-place
+    enum-known-order
+    bounded-field-requires-2
+    enum-known-place-2
+    enum-known-block
+    bounded-field-requires-3
+    enum-known-place-3
+    enum-known-count
+    returns
+    returns-2
+    returns-3
+    returns-4)

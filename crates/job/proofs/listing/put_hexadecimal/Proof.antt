@@ -1,0 +1,77 @@
+-- `job::listing::put_hexadecimal` meets its contract. The loop's invariant: the first i digits are written. Assumes nothing.
+use Prim.Native.Nat.{_+_, _-_, _≤_}
+use native.Mathlib.Omega.{arith}
+use borrow.Author.Needs.{needs}
+use Rattle.job.specs.Writing.{Written}
+use Rattle.job.proofs.Texts.{hexDigits, hex-turn, length-hex, hex-start, hex-done}
+use Rattle.job.proofs.listing.put_hexadecimal.Statement.{statement}
+use Rattle.job.proofs.listing.put_hexadecimal.Tie as tie
+
+abbrev Inv-loop : tie.InvT-loop
+Inv-loop out₀ at v bits i₀ out i = (i ≤ 16) × Written at (hexDigits bits i) out₀ (at + i) out
+
+abbrev μ-loop : tie.MeasureT-loop
+μ-loop out₀ at v bits i₀ out i = 16 - i
+
+bits-of-requires : tie.Need-bits-of-requires Inv-loop μ-loop
+bits-of-requires c κs = search needs
+
+loop-holds : tie.Need-loop-holds Inv-loop μ-loop
+loop-holds c = (omega arith, hex-start (c .before .before .args .out .now) (c .before .before .args .at) (c .bits-of .result))
+
+mul-hex-digit : tie.Need-mul-hex-digit Inv-loop μ-loop
+mul-hex-digit c = omega arith
+
+sub-hex-digit : tie.Need-sub-hex-digit Inv-loop μ-loop
+sub-hex-digit c = omega arith
+
+shr-hex-digit : tie.Need-shr-hex-digit Inv-loop μ-loop
+shr-hex-digit c = omega arith
+
+hex-digit-requires : tie.Need-hex-digit-requires Inv-loop μ-loop
+hex-digit-requires c κs = omega arith
+
+add-out : tie.Need-add-out Inv-loop μ-loop
+add-out c = omega (arith, (c .before .before .before .before .before .pre))
+
+slice-write-out : tie.Need-slice-write-out Inv-loop μ-loop
+slice-write-out c = omega (arith, (c .before .before .before .before .before .pre), length-hex (c .before .before .before .before .before .args .out .now) (c .before .before .loop .out) (c .before .before .before .before .before .args .at) (c .before .before .before .bits-of .result) (c .before .before .loop .i) (c .before .before .before .before .before .pre) (c .before .before .loop .inv .0) (c .before .before .loop .inv .1))
+
+add-i : tie.Need-add-i Inv-loop μ-loop
+add-i c = omega arith
+
+loop-less : tie.Need-loop-less Inv-loop μ-loop
+loop-less c = omega arith
+
+loop-again : tie.Need-loop-again Inv-loop μ-loop
+loop-again c = (omega arith, hex-turn (c .before .before .before .before .before .args .out .now) (c .before .before .loop .out) (c .before .before .before .before .before .args .at) (c .before .before .before .bits-of .result) (c .before .before .loop .i) (c .hex-digit .result) (c .before .before .before .before .before .pre) (c .before .loop-test .taken) (c .before .before .loop .inv .1) (c .hex-digit .ensures))
+
+add-result : tie.Need-add-result Inv-loop μ-loop
+add-result c = omega (arith, (c .before .before .before .before .pre))
+
+same-length : tie.Need-same-length Inv-loop μ-loop
+same-length c = length-hex (c .before .before .before .before .args .out .now) (c .before .loop .out) (c .before .before .before .before .args .at) (c .before .before .bits-of .result) (c .before .loop .i) (c .before .before .before .before .pre) (c .before .loop .inv .0) (c .before .loop .inv .1)
+
+returns : tie.Need-returns Inv-loop μ-loop
+returns c = hex-done (c .before .before .before .before .args .out .now) (c .before .loop .out) (c .before .before .before .before .args .at) (c .before .before .bits-of .result) (c .before .loop .i) (c .before .before .before .before .args .v) (c .before .before .bits-of .ensures) (c .before .loop .inv .0) (c .loop-test .left) (c .before .loop .inv .1)
+
+pub put-hexadecimal-spec : {M : Type 1} → statement M
+put-hexadecimal-spec =
+    tie.close
+    (tie.spec
+    Inv-loop
+    μ-loop
+    bits-of-requires
+    loop-holds
+    mul-hex-digit
+    sub-hex-digit
+    shr-hex-digit
+    hex-digit-requires
+    add-out
+    slice-write-out
+    add-i
+    loop-less
+    loop-again
+    add-result
+    same-length
+    returns)

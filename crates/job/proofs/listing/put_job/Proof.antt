@@ -1,0 +1,39 @@
+-- `job::listing::put_job` meets its contract. The head, then three numbers. Assumes nothing.
+use native.Mathlib.Omega.{arith}
+use Rattle.job.proofs.Texts.{then, as-text, job-text, length-jobLine, length-number, job-fits-order, job-fits-block}
+use borrow.Author.Needs.{needs}
+use Rattle.job.proofs.listing.put_job.Statement.{statement}
+use Rattle.job.proofs.listing.put_job.Tie as tie
+
+slice-aggregate-put-text : tie.Need-slice-aggregate-put-text
+slice-aggregate-put-text c = search needs
+
+put-text-requires : tie.Need-put-text-requires
+put-text-requires c κs = omega (arith, (c .before .before .before .pre), length-jobLine (c .before .before .before .args .n) (c .before .before .before .args .b) (c .before .before .before .args .m))
+
+put-number-requires : tie.Need-put-number-requires
+put-number-requires c κs = omega (arith, (c .before .before .before .before .before .before .before .pre), length-jobLine (c .before .before .before .before .before .before .before .args .n) (c .before .before .before .before .before .before .before .args .b) (c .before .before .before .before .before .before .before .args .m), (c .before .before .before .put-text .ensures .next), (c .before .before .before .put-text .kept .0))
+
+put-number-requires-2 : tie.Need-put-number-requires-2
+put-number-requires-2 c κs = omega (arith, (c .before .before .before .before .before .before .before .before .before .before .before .pre), length-jobLine (c .before .before .before .before .before .before .before .before .before .before .before .args .n) (c .before .before .before .before .before .before .before .before .before .before .before .args .b) (c .before .before .before .before .before .before .before .before .before .before .before .args .m), (c .before .before .before .before .before .before .before .put-text .ensures .next), (c .before .before .before .before .before .before .before .put-text .kept .0), (c .before .before .before .put-number .ensures .next), (c .before .before .before .put-number .kept .0), length-number (c .before .before .before .before .before .before .before .before .before .before .before .args .n) 32)
+
+put-number-requires-3 : tie.Need-put-number-requires-3
+put-number-requires-3 c κs = omega (arith, (c .before .before .before .before .before .before .before .before .before .before .before .before .before .before .before .pre), length-jobLine (c .before .before .before .before .before .before .before .before .before .before .before .before .before .before .before .args .n) (c .before .before .before .before .before .before .before .before .before .before .before .before .before .before .before .args .b) (c .before .before .before .before .before .before .before .before .before .before .before .before .before .before .before .args .m), (c .before .before .before .before .before .before .before .before .before .before .before .put-text .ensures .next), (c .before .before .before .before .before .before .before .before .before .before .before .put-text .kept .0), (c .before .before .before .before .before .before .before .put-number .ensures .next), (c .before .before .before .before .before .before .before .put-number .kept .0), (c .before .before .before .put-number2 .ensures .next), (c .before .before .before .put-number2 .kept .0), length-number (c .before .before .before .before .before .before .before .before .before .before .before .before .before .before .before .args .n) 32, length-number (c .before .before .before .before .before .before .before .before .before .before .before .before .before .before .before .args .b) 32)
+
+same-length : tie.Need-same-length
+same-length c = search needs
+
+returns : tie.Need-returns
+returns c = as-text (job-text (c .before .before .before .before .before .before .before .before .before .before .before .before .before .before .before .before .before .before .args .n) (c .before .before .before .before .before .before .before .before .before .before .before .before .before .before .before .before .before .before .args .b) (c .before .before .before .before .before .before .before .before .before .before .before .before .before .before .before .before .before .before .args .m)) (then (then (then (c .before .before .before .before .before .before .before .before .before .before .before .before .before .before .put-text .ensures) (c .before .before .before .before .before .before .before .before .before .before .put-number .ensures) (omega (arith, (c .before .before .before .before .before .before .before .before .before .before .before .before .before .before .before .before .before .before .pre), length-jobLine (c .before .before .before .before .before .before .before .before .before .before .before .before .before .before .before .before .before .before .args .n) (c .before .before .before .before .before .before .before .before .before .before .before .before .before .before .before .before .before .before .args .b) (c .before .before .before .before .before .before .before .before .before .before .before .before .before .before .before .before .before .before .args .m)))) (c .before .before .before .before .before .before .put-number2 .ensures) (job-fits-order (c .before .before .before .before .before .before .before .before .before .before .before .before .before .before .before .before .before .before .args .at) (c .before .before .before .before .before .before .before .before .before .before .before .before .before .before .before .before .before .before .args .n) (c .before .before .before .before .before .before .before .before .before .before .before .before .before .before .before .before .before .before .args .b) (c .before .before .before .before .before .before .before .before .before .before .before .before .before .before .before .before .before .before .args .m) (c .before .before .before .before .before .before .before .before .before .before .before .before .before .before .before .before .before .before .args .out .now) (c .before .before .before .before .before .before .before .before .before .before .before .before .before .before .before .before .before .before .pre))) (c .before .before .put-number3 .ensures) (job-fits-block (c .before .before .before .before .before .before .before .before .before .before .before .before .before .before .before .before .before .before .args .at) (c .before .before .before .before .before .before .before .before .before .before .before .before .before .before .before .before .before .before .args .n) (c .before .before .before .before .before .before .before .before .before .before .before .before .before .before .before .before .before .before .args .b) (c .before .before .before .before .before .before .before .before .before .before .before .before .before .before .before .before .before .before .args .m) (c .before .before .before .before .before .before .before .before .before .before .before .before .before .before .before .before .before .before .args .out .now) (c .before .before .before .before .before .before .before .before .before .before .before .before .before .before .before .before .before .before .pre)))
+
+pub put-job-spec : {M : Type 1} → statement M
+put-job-spec =
+    tie.close
+    (tie.spec
+    slice-aggregate-put-text
+    put-text-requires
+    put-number-requires
+    put-number-requires-2
+    put-number-requires-3
+    same-length
+    returns)

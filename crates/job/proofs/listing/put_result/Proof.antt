@@ -1,0 +1,43 @@
+-- `job::listing::put_result` meets its contract. The job's line, the values' lines where the result is accepted, and the last line. Assumes nothing.
+use native.Mathlib.Omega.{arith}
+use Rattle.job.proofs.Texts.{then, as-text, job-fits, refused-fits, accepted-fits, refused-lines, accepted-lines, two-fit}
+use borrow.Author.Needs.{needs}
+use Rattle.job.proofs.listing.put_result.Statement.{statement}
+use Rattle.job.proofs.listing.put_result.Tie as tie
+
+put-job-requires : tie.Need-put-job-requires
+put-job-requires c κs = omega (arith, job-fits (c .before .before .before .before .args .matrix .now) (c .before .before .before .before .args .rhs .now) (c .before .before .before .before .args .sizes) (c .before .before .before .before .args .result) (c .before .before .before .before .args .out .now) (c .before .before .before .before .pre))
+
+put-end-requires : tie.Need-put-end-requires
+put-end-requires c κs = omega (arith, refused-fits (c .before .before .before .before .before .before .before .before .before .before .args .matrix .now) (c .before .before .before .before .before .before .before .before .before .before .args .rhs .now) (c .before .before .before .before .before .before .before .before .before .before .args .sizes) (c .before .before .before .before .before .before .before .before .before .before .args .result) (c .before .before .before .before .before .before .before .before .before .before .args .out .now) (c .before .before .before .before .before .before .before .before .before .before .pre) (c .before .if1 .taken), (c .before .before .before .before .before .put-job .ensures .next), (c .before .before .before .before .before .put-job .kept .0))
+
+same-length : tie.Need-same-length
+same-length c = search needs
+
+returns : tie.Need-returns
+returns c = as-text (refused-lines (c .before .before .before .before .before .before .before .before .before .before .before .before .before .args .matrix .now) (c .before .before .before .before .before .before .before .before .before .before .before .before .before .args .rhs .now) (c .before .before .before .before .before .before .before .before .before .before .before .before .before .args .sizes) (c .before .before .before .before .before .before .before .before .before .before .before .before .before .args .result) (c .before .before .before .before .if1 .taken)) (then (c .before .before .before .before .before .before .before .before .put-job .ensures) (c .before .before .put-end .ensures) (omega (arith, job-fits (c .before .before .before .before .before .before .before .before .before .before .before .before .before .args .matrix .now) (c .before .before .before .before .before .before .before .before .before .before .before .before .before .args .rhs .now) (c .before .before .before .before .before .before .before .before .before .before .before .before .before .args .sizes) (c .before .before .before .before .before .before .before .before .before .before .before .before .before .args .result) (c .before .before .before .before .before .before .before .before .before .before .before .before .before .args .out .now) (c .before .before .before .before .before .before .before .before .before .before .before .before .before .pre))))
+
+put-solution-requires : tie.Need-put-solution-requires
+put-solution-requires c κs = omega (arith, accepted-fits (c .before .before .before .before .before .before .before .before .before .before .args .matrix .now) (c .before .before .before .before .before .before .before .before .before .before .args .rhs .now) (c .before .before .before .before .before .before .before .before .before .before .args .sizes) (c .before .before .before .before .before .before .before .before .before .before .args .result) (c .before .before .before .before .before .before .before .before .before .before .args .out .now) (c .before .before .before .before .before .before .before .before .before .before .pre) (c .before .if1 .left), (c .before .before .before .before .before .put-job .ensures .next), (c .before .before .before .before .before .put-job .kept .0))
+
+put-end-requires-2 : tie.Need-put-end-requires-2
+put-end-requires-2 c κs = omega (arith, accepted-fits (c .before .before .before .before .before .before .before .before .before .before .before .before .before .before .args .matrix .now) (c .before .before .before .before .before .before .before .before .before .before .before .before .before .before .args .rhs .now) (c .before .before .before .before .before .before .before .before .before .before .before .before .before .before .args .sizes) (c .before .before .before .before .before .before .before .before .before .before .before .before .before .before .args .result) (c .before .before .before .before .before .before .before .before .before .before .before .before .before .before .args .out .now) (c .before .before .before .before .before .before .before .before .before .before .before .before .before .before .pre) (c .before .before .before .before .before .if1 .left), (c .before .before .before .before .before .before .before .before .before .put-job .ensures .next), (c .before .before .before .before .before .before .before .before .before .put-job .kept .0), (c .before .before .before .put-solution .ensures .next), (c .before .before .before .put-solution .kept .0))
+
+same-length-2 : tie.Need-same-length-2
+same-length-2 c = search needs
+
+returns-2 : tie.Need-returns-2
+returns-2 c = as-text (accepted-lines (c .before .before .before .before .before .before .before .before .before .before .before .before .before .before .before .before .before .args .matrix .now) (c .before .before .before .before .before .before .before .before .before .before .before .before .before .before .before .before .before .args .rhs .now) (c .before .before .before .before .before .before .before .before .before .before .before .before .before .before .before .before .before .args .sizes) (c .before .before .before .before .before .before .before .before .before .before .before .before .before .before .before .before .before .args .result) (c .before .before .before .before .before .before .before .before .if1 .left)) (then (then (c .before .before .before .before .before .before .before .before .before .before .before .before .put-job .ensures) (c .before .before .before .before .before .before .put-solution .ensures) (omega (arith, job-fits (c .before .before .before .before .before .before .before .before .before .before .before .before .before .before .before .before .before .args .matrix .now) (c .before .before .before .before .before .before .before .before .before .before .before .before .before .before .before .before .before .args .rhs .now) (c .before .before .before .before .before .before .before .before .before .before .before .before .before .before .before .before .before .args .sizes) (c .before .before .before .before .before .before .before .before .before .before .before .before .before .before .before .before .before .args .result) (c .before .before .before .before .before .before .before .before .before .before .before .before .before .before .before .before .before .args .out .now) (c .before .before .before .before .before .before .before .before .before .before .before .before .before .before .before .before .before .pre)))) (c .before .before .put-end2 .ensures) (two-fit (c .before .before .before .before .before .before .before .before .before .before .before .before .before .before .before .before .before .args .matrix .now) (c .before .before .before .before .before .before .before .before .before .before .before .before .before .before .before .before .before .args .rhs .now) (c .before .before .before .before .before .before .before .before .before .before .before .before .before .before .before .before .before .args .sizes) (c .before .before .before .before .before .before .before .before .before .before .before .before .before .before .before .before .before .args .result) (c .before .before .before .before .before .before .before .before .before .before .before .before .before .before .before .before .before .args .out .now) (c .before .before .before .before .before .before .before .before .before .before .before .before .before .before .before .before .before .pre) (c .before .before .before .before .before .before .before .before .if1 .left)))
+
+pub put-result-spec : {M : Type 1} → statement M
+put-result-spec =
+    tie.close
+    (tie.spec
+    put-job-requires
+    put-end-requires
+    same-length
+    returns
+    put-solution-requires
+    put-end-requires-2
+    same-length-2
+    returns-2)

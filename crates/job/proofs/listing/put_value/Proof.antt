@@ -1,0 +1,28 @@
+-- `job::listing::put_value` meets its contract. The head, the digits and the line feed. Assumes nothing.
+use native.Mathlib.Omega.{arith}
+use Rattle.job.specs.Listing.{valueLine}
+use Rattle.job.proofs.Texts.{then, length-hexadecimal, length-join}
+use borrow.Author.Needs.{needs}
+use Rattle.job.proofs.listing.put_value.Statement.{statement}
+use Rattle.job.proofs.listing.put_value.Tie as tie
+
+put-text-requires : tie.Need-put-text-requires
+put-text-requires c κs = search needs
+
+put-hexadecimal-requires : tie.Need-put-hexadecimal-requires
+put-hexadecimal-requires c κs = search needs
+
+put-byte-requires : tie.Need-put-byte-requires
+put-byte-requires c κs = omega (arith, (c .before .before .before .before .before .before .before .before .before .before .before .pre .0), (c .before .before .before .before .before .before .before .before .before .before .before .pre .1), (c .before .before .before .before .before .before .before .put-text .ensures .next), (c .before .before .before .before .before .before .before .put-text .kept .0), (c .before .before .before .put-hexadecimal .ensures .next), (c .before .before .before .put-hexadecimal .kept .0), length-hexadecimal (c .before .before .before .before .before .before .before .before .before .before .before .args .v))
+
+same-length : tie.Need-same-length
+same-length c = search needs
+
+returns : tie.Need-returns
+unfolding valueLine
+returns c = then (then (c .before .before .before .before .before .before .before .before .before .before .put-text .ensures) (c .before .before .before .before .before .before .put-hexadecimal .ensures) (omega (arith, (c .before .before .before .before .before .before .before .before .before .before .before .before .before .before .pre .0), (c .before .before .before .before .before .before .before .before .before .before .before .before .before .before .pre .1)))) (c .before .before .put-byte .ensures) (length-join (c .before .before .before .before .before .before .before .before .before .before .before .before .before .before .args .at) (c .before .before .before .before .before .before .before .before .before .before .before .before .before .before .args .head .now) (c .before .before .before .before .before .before .before .before .before .before .before .before .before .before .args .v) (c .before .before .before .before .before .before .before .before .before .before .before .before .before .before .args .out .now) (c .before .before .before .before .before .before .before .before .before .before .before .before .before .before .pre .0) (c .before .before .before .before .before .before .before .before .before .before .before .before .before .before .pre .1))
+
+pub put-value-spec : {M : Type 1} → statement M
+put-value-spec =
+    tie.close
+    (tie.spec put-text-requires put-hexadecimal-requires put-byte-requires same-length returns)

@@ -1,0 +1,58 @@
+-- `job::listing::put_values` meets its contract. The loop's invariant: the lines of the first k values are written. Assumes nothing.
+use Prim.Native.Nat.{_-_, _≤_}
+use native.Mathlib.Omega.{arith}
+use mathlib.Core.Path.{_≡_, refl, _∙_}
+use lib.ListN.{length}
+use Rattle.job.specs.Writing.{Written}
+use Rattle.job.proofs.Texts.{linesTo, length-lines, lines-none, lines-turn, lines-all}
+use Rattle.job.proofs.listing.put_values.Statement.{statement}
+use Rattle.job.proofs.listing.put_values.Tie as tie
+
+abbrev Inv-loop : tie.InvT-loop
+Inv-loop out₀ at head values next₀ k₀ out next k = (k ≤ length values) × (length out ≡ length out₀) × Written at (linesTo head values k) out₀ next out
+
+abbrev μ-loop : tie.MeasureT-loop
+μ-loop out₀ at head values next₀ k₀ out next k = length values - k
+
+loop-holds : tie.Need-loop-holds Inv-loop μ-loop
+loop-holds c = (omega arith, refl, lines-none (c .before .before .before .args .head .now) (c .before .before .before .args .values .now) (c .before .before .before .args .at) (c .before .before .before .args .out .now))
+
+mul-put-value : tie.Need-mul-put-value Inv-loop μ-loop
+mul-put-value c = omega (arith, (c .before .before .before .before .before .before .good))
+
+shared-slice-read-put-value : tie.Need-shared-slice-read-put-value Inv-loop μ-loop
+shared-slice-read-put-value c = omega arith
+
+put-value-requires : tie.Need-put-value-requires Inv-loop μ-loop
+put-value-requires c κs = ((c .before .before .before .before .before .before .before .pre .0), omega (arith, (c .before .before .before .before .before .before .before .pre .1), (c .before .before .before .loop .inv .2 .next), (c .before .before .before .loop .inv .1), length-lines (c .before .before .before .before .before .before .before .args .head .now) (c .before .before .before .before .before .before .before .args .values .now) (c .before .before .before .before .before .before .before .pre .0) (c .before .before .before .loop .k)))
+
+add-k : tie.Need-add-k Inv-loop μ-loop
+add-k c = omega arith
+
+loop-less : tie.Need-loop-less Inv-loop μ-loop
+loop-less c = omega arith
+
+loop-again : tie.Need-loop-again Inv-loop μ-loop
+loop-again c = (omega arith, (c .before .before .put-value .kept .0) ∙ (c .before .before .before .before .before .before .loop .inv .1), lines-turn (c .before .before .before .before .before .before .before .before .before .before .args .head .now) (c .before .before .before .before .before .before .before .before .before .before .args .values .now) (c .before .before .before .before .before .before .before .before .before .before .args .at) (c .before .before .before .before .before .before .loop .next) (c .before .before .put-value .result) (c .before .before .before .before .before .before .loop .k) (c .before .before .before .before .before .before .before .before .before .before .args .out .now) (c .before .before .before .before .before .before .loop .out) (c .before .before .put-value .last .0) (c .before .before .before .before .before .before .before .before .before .before .pre .0) (c .before .before .before .before .before .before .before .before .before .before .pre .1) (c .before .before .before .before .before .loop-test .taken) (c .before .before .before .before .before .before .loop .inv .2) (c .before .before .put-value .ensures))
+
+same-length : tie.Need-same-length Inv-loop μ-loop
+same-length c = (c .before .loop .inv .1)
+
+returns : tie.Need-returns Inv-loop μ-loop
+returns c = lines-all (c .before .before .before .before .before .args .head .now) (c .before .before .before .before .before .args .values .now) (c .before .before .before .before .before .args .at) (c .before .loop .next) (c .before .loop .k) (c .before .before .before .before .before .args .out .now) (c .before .loop .out) (c .before .loop .inv .0) (c .loop-test .left) (c .before .loop .inv .2)
+
+pub put-values-spec : {M : Type 1} → statement M
+put-values-spec =
+    tie.close
+    (tie.spec
+    Inv-loop
+    μ-loop
+    loop-holds
+    mul-put-value
+    shared-slice-read-put-value
+    put-value-requires
+    add-k
+    loop-less
+    loop-again
+    same-length
+    returns)

@@ -1,0 +1,104 @@
+-- Document 01, "A job and its listing": the listing's bytes.
+use Prim.Native.Nat.{ℕ, zero, suc, _+_, _-_, _/_, _%_, _^_}
+use mathlib.Core.Bool.{cond}
+use mathlib.Core.List.{List, [], _∷_, _++_}
+use mathlib.Core.Path.{_≡_}
+use lib.Dec.{T, leb, ltb}
+use lib.ListN.{length, getD, replicate}
+use lib.Ieee.{Float, nan, binary64, toBits}
+use Rattle.binary64.specs.Kinds.{zero64}
+use Rattle.shape.specs.Places.{blockWork}
+use Rattle.calls.specs.declared.CallResult.{CallResult}
+use Rattle.calls.specs.Sequences.{iterate, tabulate}
+use Rattle.calls.specs.Refusals.{accepted, rule7, rule8, firstRefusal}
+use Rattle.calls.specs.Pipelines.{Ended, blockedPipeline}
+use Rattle.job.specs.declared.Sizes.{Sizes}
+use Rattle.job.specs.Reading.{Parsed, fault, found}
+use Rattle.job.specs.Format.{Job, readJob}
+
+-- ---- numbers
+
+abbrev pub space : ℕ
+space = 32
+
+abbrev pub lineFeed : ℕ
+lineFeed = 10
+
+-- decimal, of at most count digits: 20 are enough for 64 bits
+unfoldable pub digits : ℕ → ℕ → List ℕ
+digits zero n = []
+digits (suc k) n = cond (ltb n 10) ((48 + n) ∷ []) (digits k (n / 10) ++ ((48 + n % 10) ∷ []))
+
+unfoldable pub decimal : ℕ → List ℕ
+decimal n = digits 20 n
+
+-- 0 to 9, then A to F
+unfoldable pub hexDigit : ℕ → ℕ
+hexDigit d = cond (ltb d 10) (48 + d) (55 + d)
+
+-- 16 upper-case hexadecimal digits of the bits
+unfoldable pub hexadecimal : Float → List ℕ
+hexadecimal v = tabulate 16 (λ i. hexDigit (toBits binary64 v / 16 ^ (15 - i) % 16))
+
+-- ---- lines
+
+-- `JOB` gives n, b, m in decimal
+unfoldable pub jobLine : ℕ → ℕ → ℕ → List ℕ
+jobLine n b m = (74 ∷ 79 ∷ 66 ∷ space ∷ []) ++ decimal n ++ (space ∷ []) ++ decimal b ++ (space ∷ []) ++ decimal m ++ (lineFeed ∷ [])
+
+-- `F` and `X`: a line's head and a value
+unfoldable pub valueLine : List ℕ → Float → List ℕ
+valueLine head v = head ++ hexadecimal v ++ (lineFeed ∷ [])
+
+unfoldable pub valueLines : List ℕ → List Float → List ℕ
+valueLines head vs = iterate (λ k lines. lines ++ valueLine head (getD vs k nan)) (length vs) []
+
+-- `END` code and place in decimal
+unfoldable pub endLine : ℕ → ℕ → List ℕ
+endLine code place = (69 ∷ 78 ∷ 68 ∷ space ∷ []) ++ decimal code ++ (space ∷ []) ++ decimal place ++ (lineFeed ∷ [])
+
+-- ---- the listing
+
+-- Codes 7 (on the packed matrix) and 8 follow, then the blocked pipeline, with work memory of its needed length.
+unfoldable pub jobEnded : Job → Ended
+jobEnded job =
+    let n = job .sizes .order in
+    let b = job .sizes .block in
+    blockedPipeline n b (job .sizes .count) (job .matrix) (job .rhs) (replicate (blockWork n b) zero64)
+
+unfoldable pub jobResult : Job → CallResult
+jobResult job = firstRefusal (rule7 (job .matrix) ∷ rule8 (job .rhs) ∷ jobEnded job .solverResult ∷ [])
+
+-- After code 13 only `END` stands; after others `JOB` and `END`. The value lines hold the matrix and the right-hand sides at the pipeline's end.
+unfoldable pub solutionLines : List Float → List Float → List ℕ
+solutionLines matrix rhs = valueLines (70 ∷ space ∷ []) matrix ++ valueLines (88 ∷ space ∷ []) rhs
+
+unfoldable pub resultLines : Sizes → CallResult → List Float → List Float → List ℕ
+resultLines sizes result matrix rhs =
+    jobLine (sizes .order) (sizes .block) (sizes .count)
+    ++ cond (accepted result) (solutionLines matrix rhs) []
+    ++ endLine (result .code) (result .place)
+
+unfoldable pub listingOf : Job → List ℕ
+listingOf job = resultLines (job .sizes) (jobResult job) (jobEnded job .matrix) (jobEnded job .rhs)
+
+abbrev pub listed : Parsed Job → List ℕ
+listed (fault place) = endLine 13 place
+listed (found job at) = listingOf job
+
+unfoldable pub listing : List ℕ → List ℕ
+listing file = listed (readJob file)
+
+-- the longest listing: n 64, b 200, m 16, accepted
+abbrev pub maxListing : ℕ
+maxListing = 58998
+
+-- what is written to memory of a given size: the listing where the longest one has room, else nothing
+unfoldable pub listingIn : ℕ → List ℕ → List ℕ
+listingIn size file = cond (leb maxListing size) (listing file) []
+
+-- what a solved job returns, and the memory that it leaves where it is accepted
+pub record JobSolved (job : Job) (r : CallResult) (matrix′ rhs′ : List Float) : Type 0 where
+  pub result : r ≡ jobResult job
+  pub matrix : T (accepted r) → matrix′ ≡ jobEnded job .matrix
+  pub rhs : T (accepted r) → rhs′ ≡ jobEnded job .rhs

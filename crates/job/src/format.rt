@@ -1,0 +1,168 @@
+// The job's bytes, field by field, from front to end. The first fault ends the reading.
+ghost use mathlib.Core.Path.{_≡_};
+ghost use Prim.Native.Nat.{_≤_, _*_};
+ghost use lib.ListN.{length};
+ghost use Rattle.shape.specs.Places.{triangle};
+ghost use Rattle.job.specs.Reading.{bounded, value, values, parsedField, parsedValue};
+ghost use Rattle.job.specs.Format.{maxJobOrder, mapBit, presentIn, readSizes, readMap, readValues, parsedSizes, parsedAs};
+use crate::Field;
+use crate::Head;
+use crate::Sizes;
+use crate::Step;
+use crate::Value;
+use crate::floats::float_of;
+use crate::reader::read_field;
+use crate::reader::wide;
+use shape::Shape;
+
+const MAX_ORDER: u64 = 64;
+
+const MAX_BLOCK: u64 = 200;
+
+const MAX_RHS: u64 = 16;
+
+// Where the bit map begins.
+const MAP: usize = 5;
+
+// A field from low to high.
+fn bounded_field(file: &[u8], at: usize, width: usize, low: u64, high: u64) -> Field
+    requires { ⌜ width ≤ 8 ⌝ }
+    ensures { λ r. ⌜ parsedField r ≡ bounded (now (file .entry)) at width low high ⌝ }
+{
+    match read_field(file, at, width) {
+        Field::Found(value, next) => {
+            if value < low {
+                return Field::Fault(at);
+            }
+            if high < value {
+                return Field::Fault(at);
+            }
+            Field::Found(value, next)
+        }
+        Field::Fault(place) => Field::Fault(place),
+    }
+}
+
+pub fn read_sizes(file: &[u8]) -> Head
+    ensures { λ r. ⌜ parsedSizes r ≡ readSizes (now (file .entry)) ⌝ }
+{
+    match bounded_field(file, 0, 2, 0, MAX_ORDER) {
+        Field::Fault(place) => Head::Fault(place),
+        Field::Found(order, at) => match bounded_field(file, at, 2, 1, MAX_BLOCK) {
+            Field::Fault(place) => Head::Fault(place),
+            Field::Found(block, at) => match bounded_field(file, at, 1, 0, MAX_RHS) {
+                Field::Fault(place) => Head::Fault(place),
+                Field::Found(count, at) => Head::Found(
+                    Sizes {
+                        order: order as usize,
+                        block: block as usize,
+                        count: count as usize,
+                    },
+                    at,
+                ),
+            },
+        },
+    }
+}
+
+// The map is there, and the bits of its last byte that stand for no entry are zeros.
+pub fn read_map(file: &[u8], n: usize, at: usize) -> Step
+    requires { ⌜ n ≤ maxJobOrder ⌝ }
+    ensures { λ r. ⌜ parsedAs tt r ≡ readMap (now (file .entry)) n at ⌝ }
+{
+    let bits = Shape::new(n, 1).triangle();
+    let bytes = (bits + 7) / 8;
+    if file.len() < bytes {
+        return Step::Fault(file.len());
+    }
+    if file.len() - bytes < at {
+        return Step::Fault(file.len());
+    }
+    let next = at + bytes;
+    let used = bits % 8;
+    if used == 0 {
+        return Step::Next(next);
+    }
+    if wide(file[next - 1]) >> used != 0 {
+        return Step::Fault(next - 1);
+    }
+    Step::Next(next)
+}
+
+// Bit p of the map; past the file's end it is not set.
+fn map_bit(file: &[u8], p: usize) -> bool
+    ensures { λ r. ⌜ r ≡ mapBit (now (file .entry)) p ⌝ }
+{
+    let i = MAP + p / 8;
+    if i < file.len() {
+        return (wide(file[i]) >> (p % 8)) % 2 == 1;
+    }
+    false
+}
+
+// Whether value k is there: in any case, or where its bit stands in the map.
+fn present(file: &[u8], mapped: bool, k: usize) -> bool
+    ensures { λ r. ⌜ r ≡ presentIn (now (file .entry)) mapped k ⌝ }
+{
+    if mapped {
+        return map_bit(file, k);
+    }
+    true
+}
+
+fn read_value(file: &[u8], mapped: bool, k: usize, at: usize) -> Value
+    ensures { λ r. ⌜ parsedValue r ≡ value (now (file .entry)) (presentIn (now (file .entry)) mapped k) at ⌝ }
+{
+    if !present(file, mapped, k) {
+        return Value::Found(0.0, at);
+    }
+    match read_field(file, at, 8) {
+        Field::Found(bits, next) => Value::Found(float_of(bits), next),
+        Field::Fault(place) => Value::Fault(place),
+    }
+}
+
+// As many values as out holds. After a fault out is written in part.
+fn read_values(file: &[u8], mapped: bool, at: usize, out: &mut [f64]) -> Step
+    ensures { λ r. ⌜ parsedAs (now (out .exit)) r ≡ values (now (file .entry)) (presentIn (now (file .entry)) mapped) (length (now (out .entry))) at ⌝ }
+{
+    let mut next = at;
+    let mut k = 0;
+    while k < out.len() {
+        match read_value(file, mapped, k, next) {
+            Value::Fault(place) => return Step::Fault(place),
+            Value::Found(v, after) => {
+                out[k] = v;
+                next = after;
+            }
+        }
+        k += 1;
+    }
+    Step::Next(next)
+}
+
+// The entries, the right-hand sides, and nothing after them.
+pub fn read_contents(
+    file: &[u8],
+    sizes: Sizes,
+    at: usize,
+    matrix: &mut [f64],
+    rhs: &mut [f64],
+) -> Step
+    requires { ⌜ length (now matrix) ≡ triangle (sizes .order) ⌝ }
+    requires { ⌜ length (now rhs) ≡ sizes .order * sizes .count ⌝ }
+    ensures { λ r. ⌜ parsedAs (record { sizes = sizes; matrix = now (matrix .exit); rhs = now (rhs .exit) }) r ≡ readValues (now (file .entry)) sizes at ⌝ }
+{
+    match read_values(file, true, at, matrix) {
+        Step::Fault(place) => Step::Fault(place),
+        Step::Next(at) => match read_values(file, false, at, rhs) {
+            Step::Fault(place) => Step::Fault(place),
+            Step::Next(at) => {
+                if at == file.len() {
+                    return Step::Next(at);
+                }
+                Step::Fault(at)
+            }
+        },
+    }
+}
