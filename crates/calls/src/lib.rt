@@ -8,6 +8,7 @@ ghost use Rattle.calls.specs.Refusals as Refusals;
 mod rules;
 
 pub use rules::check_factor;
+pub use rules::check_finite;
 pub use rules::check_rearranger;
 pub use rules::check_solver;
 

@@ -82,7 +82,7 @@ fn check_rhs(shape: Shape, m: usize, rhs: usize) -> CallResult
 }
 
 // Rules 7 and 8: the lowest position of a value that is not finite, looked for only where there is one.
-fn check_finite(code: usize, memory: &[f64]) -> CallResult
+pub fn check_finite(code: usize, memory: &[f64]) -> CallResult
     requires { ⌜ 0 < code ⌝ }
     ensures { λ r. ⌜ r ≡ finiteRule code (now (memory .entry)) ⌝ }
 {

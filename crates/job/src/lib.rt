@@ -1,8 +1,27 @@
 // A job read from its bytes, and its listing.
+ghost use mathlib.Core.Path.{_≡_};
+ghost use Prim.Native.Nat.{_*_, _≤_};
+ghost use lib.ListN.{length};
+ghost use Rattle.shape.specs.Places.{triangle};
+ghost use Rattle.job.specs.Reading.{andThen};
+ghost use Rattle.job.specs.Format.{InBounds, readMap, readValues};
+ghost use Rattle.job.specs.Listing.{maxListing, JobSolved, listed, listingIn, listingOf};
+ghost use Rattle.job.specs.Writing.{Written};
+
 mod floats;
 mod format;
 mod listing;
 mod reader;
+
+use calls::CallResult;
+use calls::check_finite;
+use engine::blocked_pipeline;
+use format::read_contents;
+use format::read_map;
+use format::read_sizes;
+use listing::put_end;
+use listing::put_result;
+use shape::Shape;
 
 // A field's value and the position after it, or the place of the fault.
 pub enum Field {
@@ -33,4 +52,107 @@ pub struct Sizes {
 pub enum Head {
     Found(Sizes, usize),
     Fault(usize),
+}
+
+// The most values of a matrix, of right-hand sides and of work memory that a job can need, and the bytes of the longest listing.
+const MATRIX: usize = 2080;
+
+const RHS: usize = 1024;
+
+const WORK: usize = 4096;
+
+const LISTING: usize = 58998;
+
+// Codes 7 and 8 on the job's memory, then the blocked pipeline.
+fn solve_job(sizes: Sizes, matrix: &mut [f64], rhs: &mut [f64]) -> CallResult
+    requires { ⌜ InBounds sizes ⌝ }
+    ensures { λ r. ⌜ JobSolved (record { sizes = sizes; matrix = now (matrix .entry); rhs = now (rhs .entry) }) r (now (matrix .exit)) (now (rhs .exit)) ⌝ }
+{
+    let checked = check_finite(7, matrix);
+    if checked.code != 0 {
+        return checked;
+    }
+    let checked = check_finite(8, rhs);
+    if checked.code != 0 {
+        return checked;
+    }
+    let shape = Shape::new(sizes.order, sizes.block);
+    let needed = shape.block_work();
+    let mut work = [0.0; WORK];
+    let ended = blocked_pipeline(shape, sizes.count, matrix, rhs, &mut work[..needed]);
+    ended.solver
+}
+
+fn list_solved(sizes: Sizes, matrix: &mut [f64], rhs: &mut [f64], out: &mut [u8]) -> usize
+    requires { ⌜ InBounds sizes ⌝ }
+    requires { ⌜ length (now matrix) ≡ triangle (sizes .order) ⌝ }
+    requires { ⌜ length (now rhs) ≡ sizes .order * sizes .count ⌝ }
+    requires { ⌜ maxListing ≤ length (now out) ⌝ }
+    ensures { λ r. ⌜ Written 0 (listingOf (record { sizes = sizes; matrix = now (matrix .entry); rhs = now (rhs .entry) })) (now (out .entry)) r (now (out .exit)) ⌝ }
+{
+    let result = solve_job(sizes, matrix, rhs);
+    put_result(out, sizes, result, matrix, rhs)
+}
+
+fn list_contents(
+    file: &[u8],
+    sizes: Sizes,
+    at: usize,
+    matrix: &mut [f64],
+    rhs: &mut [f64],
+    out: &mut [u8],
+) -> usize
+    requires { ⌜ InBounds sizes ⌝ }
+    requires { ⌜ length (now matrix) ≡ triangle (sizes .order) ⌝ }
+    requires { ⌜ length (now rhs) ≡ sizes .order * sizes .count ⌝ }
+    requires { ⌜ maxListing ≤ length (now out) ⌝ }
+    ensures { λ r. ⌜ Written 0 (listed (readValues (now (file .entry)) sizes at)) (now (out .entry)) r (now (out .exit)) ⌝ }
+{
+    match read_contents(file, sizes, at, matrix, rhs) {
+        Step::Fault(place) => put_end(out, 0, 13, place),
+        Step::Next(_) => list_solved(sizes, matrix, rhs, out),
+    }
+}
+
+fn list_values(file: &[u8], sizes: Sizes, at: usize, out: &mut [u8]) -> usize
+    requires { ⌜ InBounds sizes ⌝ }
+    requires { ⌜ maxListing ≤ length (now out) ⌝ }
+    ensures { λ r. ⌜ Written 0 (listed (readValues (now (file .entry)) sizes at)) (now (out .entry)) r (now (out .exit)) ⌝ }
+{
+    let entries = Shape::new(sizes.order, sizes.block).triangle();
+    let values = sizes.order * sizes.count;
+    let mut matrix = [0.0; MATRIX];
+    let mut rhs = [0.0; RHS];
+    list_contents(
+        file,
+        sizes,
+        at,
+        &mut matrix[..entries],
+        &mut rhs[..values],
+        out,
+    )
+}
+
+fn list_mapped(file: &[u8], sizes: Sizes, at: usize, out: &mut [u8]) -> usize
+    requires { ⌜ InBounds sizes ⌝ }
+    requires { ⌜ maxListing ≤ length (now out) ⌝ }
+    ensures { λ r. ⌜ Written 0 (listed (andThen (readMap (now (file .entry)) (sizes .order) at) (λ _ next. readValues (now (file .entry)) sizes next))) (now (out .entry)) r (now (out .exit)) ⌝ }
+{
+    match read_map(file, sizes.order, at) {
+        Step::Fault(place) => put_end(out, 0, 13, place),
+        Step::Next(next) => list_values(file, sizes, next, out),
+    }
+}
+
+// The listing of a job, written to the start of out, and its length. Where out has no room for the longest listing, nothing is written.
+pub fn run(file: &[u8], out: &mut [u8]) -> usize
+    ensures { λ r. ⌜ Written 0 (listingIn (length (now (out .entry))) (now (file .entry))) (now (out .entry)) r (now (out .exit)) ⌝ }
+{
+    if out.len() < LISTING {
+        return 0;
+    }
+    match read_sizes(file) {
+        Head::Fault(place) => put_end(out, 0, 13, place),
+        Head::Found(sizes, at) => list_mapped(file, sizes, at, out),
+    }
 }

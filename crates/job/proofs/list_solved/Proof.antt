@@ -1,0 +1,37 @@
+-- `job::list_solved` meets its contract. What was solved is listed, and has room. Assumes nothing.
+use native.Mathlib.Omega.{arith}
+use Rattle.job.proofs.Texts.{as-text}
+use Rattle.job.proofs.Formats.{triangle-small, values-small}
+use Rattle.job.proofs.Listings.{result-short, job-success-of, solved-lines}
+use borrow.Author.Needs.{needs}
+use Rattle.job.proofs.list_solved.Statement.{statement}
+use Rattle.job.proofs.list_solved.Tie as tie
+
+solve-job-requires : tie.Need-solve-job-requires
+solve-job-requires c κs = search needs
+
+put-result-requires : tie.Need-put-result-requires
+put-result-requires c κs = omega (arith, (c .before .before .before .before .before .before .before .before .before .before .before .before .before .pre .1 .1 .1), result-short (c .before .before .before .before .before .before .before .before .before .before .before .before .before .args .sizes) (c .before .before .before .before .before .before .before .before .before .before .before .before .before .pre .0) (c .before .before .before .before .before .before .before .solve-job .result) (c .before .before .before .before .before .before .before .solve-job .last .1 .0) (c .before .before .before .before .before .before .before .solve-job .last .1 .1 .0) (job-success-of _ _ _ _ (c .before .before .before .before .before .before .before .solve-job .ensures)) (omega (arith, (c .before .before .before .before .before .before .before .solve-job .kept .1 .0), (c .before .before .before .before .before .before .before .before .before .before .before .before .before .pre .1 .0), triangle-small (c .before .before .before .before .before .before .before .before .before .before .before .before .before .args .sizes .order) (c .before .before .before .before .before .before .before .before .before .before .before .before .before .pre .0 .order))) (omega (arith, (c .before .before .before .before .before .before .before .solve-job .kept .1 .1 .0), (c .before .before .before .before .before .before .before .before .before .before .before .before .before .pre .1 .1 .0), values-small (c .before .before .before .before .before .before .before .before .before .before .before .before .before .args .sizes .order) (c .before .before .before .before .before .before .before .before .before .before .before .before .before .args .sizes .count) (c .before .before .before .before .before .before .before .before .before .before .before .before .before .pre .0 .order) (c .before .before .before .before .before .before .before .before .before .before .before .before .before .pre .0 .count))))
+
+same-length : tie.Need-same-length
+same-length c = search needs
+
+same-length-2 : tie.Need-same-length-2
+same-length-2 c = search needs
+
+same-length-3 : tie.Need-same-length-3
+same-length-3 c = search needs
+
+returns : tie.Need-returns
+returns c = as-text (solved-lines _ _ _ _ (c .before .before .before .before .before .before .before .before .before .before .solve-job .ensures)) (c .before .before .put-result .ensures)
+
+pub list-solved-spec : {M : Type 1} → statement M
+list-solved-spec =
+    tie.close
+    (tie.spec
+    solve-job-requires
+    put-result-requires
+    same-length
+    same-length-2
+    same-length-3
+    returns)

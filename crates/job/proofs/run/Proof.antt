@@ -1,0 +1,54 @@
+-- `job::run` meets its contract. By the room in out, and by what the sizes' reading gave. Assumes nothing.
+use native.Mathlib.Omega.{arith}
+use mathlib.Core.Path.{sym, ap, _∙_}
+use Rattle.job.specs.Format.{parsedSizes}
+use Rattle.job.proofs.Texts.{as-text, nothing-written}
+use Rattle.job.proofs.Listings.{sizes-bounds, end-short, no-room, listing-fault, listing-sizes}
+use borrow.Author.Needs.{needs}
+use Rattle.job.proofs.run.Statement.{statement}
+use Rattle.job.proofs.run.Tie as tie
+
+returns : tie.Need-returns
+returns c = as-text (no-room (c .before .before .before .args .file .now) (c .before .before .before .args .out .now) (c .if1 .taken)) (nothing-written 0 (c .before .before .before .args .out .now))
+
+read-sizes-requires : tie.Need-read-sizes-requires
+read-sizes-requires c κs = search needs
+
+enum-known-place : tie.Need-enum-known-place
+enum-known-place c = search needs
+
+put-end-requires : tie.Need-put-end-requires
+put-end-requires c κs = omega (arith, (c .before .before .before .before .before .if1 .left), end-short 13 (c .before .before .place .given .0 .0))
+
+enum-known-sizes : tie.Need-enum-known-sizes
+enum-known-sizes c = search needs
+
+list-mapped-requires : tie.Need-list-mapped-requires
+list-mapped-requires c κs = (sizes-bounds (c .before .before .before .before .before .before .before .before .args .file .now) (c .before .before .sizes .given .0 .0) (c .before .before .sizes .given .0 .1 .0) (sym (sym (ap parsedSizes (c .before .before .sizes .given .1)) ∙ (c .before .before .before .before .read-sizes .ensures))), (c .before .before .before .before .before .if1 .left))
+
+same-length : tie.Need-same-length
+same-length c = search needs
+
+returns-2 : tie.Need-returns-2
+returns-2 c = as-text (listing-fault (c .before .before .before .before .before .before .before .before .before .before .before .args .file .now) (c .before .before .before .before .before .before .before .before .before .before .before .args .out .now) (c .before .before .before .before .before .place .given .0 .0) (c .before .before .before .before .before .before .before .before .if1 .left) (sym (ap parsedSizes (c .before .before .before .before .before .place .given .1)) ∙ (c .before .before .before .before .before .before .before .read-sizes .ensures))) (c .before .before .put-end .ensures)
+
+same-length-2 : tie.Need-same-length-2
+same-length-2 c = search needs
+
+returns-3 : tie.Need-returns-3
+returns-3 c = as-text (listing-sizes (c .before .before .before .before .before .before .before .before .before .before .before .args .file .now) (c .before .before .before .before .before .before .before .before .before .before .before .args .out .now) (c .before .before .before .before .before .sizes .given .0 .0) (c .before .before .before .before .before .sizes .given .0 .1 .0) (c .before .before .before .before .before .before .before .before .if1 .left) (sym (ap parsedSizes (c .before .before .before .before .before .sizes .given .1)) ∙ (c .before .before .before .before .before .before .before .read-sizes .ensures))) (c .before .before .list-mapped .ensures)
+
+pub run-spec : {M : Type 1} → statement M
+run-spec =
+    tie.close
+    (tie.spec
+    returns
+    read-sizes-requires
+    enum-known-place
+    put-end-requires
+    enum-known-sizes
+    list-mapped-requires
+    same-length
+    returns-2
+    same-length-2
+    returns-3)
