@@ -11,10 +11,10 @@ use Rattle.shape.specs.Places.{blockStart, placeInBlock}
 use Rattle.shape.proofs.Parts.{starts-zero}
 use Rattle.shape.proofs.Bounds.{block-start-le, triangle-le}
 use Rattle.shape.proofs.Rows.{rowLength, block-start-rows, place-in-block-row, place-in-block-lt, place-in-block-next-row-inside, place-in-block-next-row-under}
-use Rattle.solve.specs.Kernels.{Replaced, MultipleSubtracted, risingFrom}
+use Rattle.kernels.specs.Kernels.{Replaced, MultipleSubtracted, risingFrom}
 use Rattle.solve.specs.Substitution.{entriesAt, TriangleForward, RowsSubtracted}
-use Rattle.solve.proofs.Parts.{getD-part, prefix-replaced}
-use Rattle.solve.proofs.Products.{rising-prefix}
+use Rattle.kernels.proofs.Parts.{getD-part, prefix-replaced}
+use Rattle.kernels.proofs.Products.{rising-prefix}
 use Rattle.solve.proofs.Triangles.{forward-next, rows-next, ProductsFrom, products-next, RowTaken, TakenFrom, taken-next}
 
 -- ---- places

@@ -14,7 +14,7 @@ use Rattle.shape.proofs.Blocks.{width-le, width-le-block, blocked-place-at}
 use Rattle.calls.specs.Triangles.{entry, height, load}
 use Rattle.calls.proofs.Triangles.{entry-load}
 use Rattle.solve.specs.Substitution.{entriesAt}
-use Rattle.solve.proofs.Parts.{getD-part}
+use Rattle.kernels.proofs.Parts.{getD-part}
 use Rattle.solve.proofs.Substitution.{Agrees}
 
 -- an entry at place p of the part

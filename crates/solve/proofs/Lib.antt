@@ -1,6 +1,3 @@
-pub mod Loops
-pub mod Parts
-pub mod Products
 pub mod Substitution
 pub mod Triangles
 pub mod Factors

@@ -10,10 +10,10 @@ use Rattle.shape.specs.Places.{triangle, packedPlace, blockStart}
 use Rattle.shape.proofs.Bounds.{block-start-le}
 use Rattle.shape.proofs.Columns.{block-start-next, packed-place-diagonal, packed-place-column}
 use Rattle.calls.specs.Arithmetic.{minusProducts}
-use Rattle.solve.specs.Kernels.{Replaced, MultipleSubtracted, fallingFrom}
+use Rattle.kernels.specs.Kernels.{Replaced, MultipleSubtracted, fallingFrom}
 use Rattle.solve.specs.Substitution.{entriesAt, ForwardDone, ProductsSubtracted}
-use Rattle.solve.proofs.Parts.{getD-part, part-replaced, length-part}
-use Rattle.solve.proofs.Products.{minus-none, minus-next, falling-part}
+use Rattle.kernels.proofs.Parts.{getD-part, part-replaced, length-part}
+use Rattle.kernels.proofs.Products.{minus-none, minus-next, falling-part}
 use Rattle.calls.specs.Triangles.{height, load}
 use Rattle.solve.specs.Substitution.{BackwardDone}
 use Rattle.solve.proofs.Factors.{triangle-rest, column-agrees, packed-agrees}

@@ -11,10 +11,10 @@ use Rattle.calls.specs.Triangles.{Triangle, entry}
 use Rattle.calls.specs.Arithmetic.{minusProducts, forward, backward}
 use Rattle.calls.proofs.Columns.{products-same}
 use Rattle.calls.proofs.Entries.{length-forward, forward-entry, length-backward, backward-entry}
-use Rattle.solve.specs.Kernels.{Replaced}
+use Rattle.kernels.specs.Kernels.{Replaced}
 use Rattle.solve.specs.Substitution.{TriangleForward, RowsSubtracted, ForwardDone, ProductsSubtracted, BackwardDone}
-use Rattle.solve.proofs.Parts.{getD-part, length-part, part-replaced}
-use Rattle.solve.proofs.Products.{minus-none, minus-add}
+use Rattle.kernels.proofs.Parts.{getD-part, length-part, part-replaced}
+use Rattle.kernels.proofs.Products.{minus-none, minus-add}
 
 -- the block column that begins with column c has the factor's entries
 abbrev pub Agrees : ℕ → ℕ → ℕ → Triangle → (ℕ → ℕ → Float) → Type 0

@@ -10,7 +10,7 @@ use lib.Ieee.{Float, nan, binary64, sub, mul, div}
 use Rattle.calls.specs.Arithmetic.{minusProducts}
 use Rattle.calls.proofs.Columns.{products-same}
 use Rattle.solve.specs.Substitution.{TriangleForward, RowsSubtracted, ProductsSubtracted, BackwardDone}
-use Rattle.solve.proofs.Products.{minus-none, minus-next}
+use Rattle.kernels.proofs.Products.{minus-none, minus-next}
 use Rattle.solve.proofs.Substitution.{rows-join}
 
 module _ (coefficient : ℕ → ℕ → Float) where

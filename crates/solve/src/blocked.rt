@@ -7,8 +7,8 @@ ghost use Rattle.shape.specs.Places.{triangle, placeInBlock, blockedPlace};
 ghost use Rattle.calls.specs.Triangles.{height, load};
 ghost use Rattle.calls.specs.Arithmetic as Arithmetic;
 ghost use Rattle.solve.specs.Substitution.{entriesAt, BlockColumn, TriangleForward, RowsSubtracted, ForwardDone, ProductsSubtracted, BackwardDone};
-use crate::kernels::subtract_multiple;
-use crate::kernels::subtract_rising;
+use kernels::subtract_multiple;
+use kernels::subtract_rising;
 use shape::Shape;
 
 // The first w rows are finished.

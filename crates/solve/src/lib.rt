@@ -4,7 +4,6 @@ ghost use Rattle.calls.specs.Calls as Calls;
 ghost use Rattle.calls.specs.Calls.{SolvedAs};
 
 mod blocked;
-mod kernels;
 mod plain;
 mod rhs;
 

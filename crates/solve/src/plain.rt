@@ -9,11 +9,11 @@ ghost use Rattle.shape.specs.Places.{triangle, packedPlace};
 ghost use Rattle.calls.specs.Triangles.{height, load};
 ghost use Rattle.calls.specs.Arithmetic as Arithmetic;
 ghost use Rattle.solve.specs.Substitution.{entriesAt, ForwardDone, ProductsSubtracted, BackwardDone};
-use crate::kernels::load8;
-use crate::kernels::store8;
-use crate::kernels::subtract_falling;
-use crate::kernels::subtract_falling8;
-use crate::kernels::subtract_multiple;
+use kernels::load8;
+use kernels::store8;
+use kernels::subtract_falling;
+use kernels::subtract_falling8;
+use kernels::subtract_multiple;
 use shape::Shape;
 
 // The first row of a triangle is finished, and its products are subtracted from the rows below it.

@@ -9,7 +9,6 @@ ghost use Rattle.calls.specs.Calls as Calls;
 ghost use Rattle.calls.specs.Calls.{SolvedAs};
 ghost use Rattle.solve.specs.Solving.{Checked, factorOf, Substituted, RhsSolved, AllSolved};
 use crate::blocked;
-use crate::kernels;
 use crate::plain;
 use calls::CallResult;
 use calls::Layout;

@@ -6,7 +6,7 @@ use Prim.Native.Nat.{ℕ, _+_, _-_, _≤_, _<_}
 use mathlib.Core.Path.{_≡_, refl}
 use lib.ListN.{length}
 use Rattle.shape.specs.Places.{packedPlace}
-use Rattle.solve.proofs.Loops.{Stored, stored-none, stored-next}
+use Rattle.kernels.proofs.Loops.{Stored, stored-none, stored-next}
 use Rattle.solve.proofs.plain.places8.Statement.{statement}
 use Rattle.solve.proofs.plain.places8.Tie as tie
 

@@ -3,9 +3,9 @@ use Prim.Native.Nat.{_+_, _-_, _≤_}
 use mathlib.Core.Path.{_≡_, refl}
 use lib.ListN.{length, getD}
 use lib.Ieee.{nan}
-use Rattle.solve.proofs.Loops.{Stored, stored-none, stored-next}
-use Rattle.solve.proofs.kernels.load8.Statement.{statement}
-use Rattle.solve.proofs.kernels.load8.Tie as tie
+use Rattle.kernels.proofs.Loops.{Stored, stored-none, stored-next}
+use Rattle.kernels.proofs.load8.Statement.{statement}
+use Rattle.kernels.proofs.load8.Tie as tie
 
 abbrev Inv-loop : tie.InvT-loop
 Inv-loop v at values₀ s₀ values s = (s ≤ 8) × (length values₀ ≡ 8) × Stored nan (λ q. getD v (at + q) nan) values₀ s values

@@ -19,9 +19,13 @@ pub record MultipleSubtracted (v x : List Float) (y : Float) (v′ : List Float)
   pub size : length v′ ≡ length v
   pub value : (r : ℕ) → r < length v → getD v′ r nan ≡ sub binary64 (getD v r nan) (mul binary64 (getD x r nan) y)
 
--- zs is xs with the k elements from a on replaced by those of ys
-pub record Replaced {A : Type 0} (d : A) (a k : ℕ) (xs ys zs : List A) : Type 0 where
+-- zs is xs with the count elements from `from` on being f 0, f 1, ..
+pub record Filled {A : Type 0} (d : A) (from count : ℕ) (f : ℕ → A) (xs zs : List A) : Type 0 where
   pub size : length zs ≡ length xs
-  pub before : (i : ℕ) → i < a → getD zs i d ≡ getD xs i d
-  pub inside : (r : ℕ) → r < k → getD zs (a + r) d ≡ getD ys r d
-  pub after : (i : ℕ) → a + k ≤ i → getD zs i d ≡ getD xs i d
+  pub before : (i : ℕ) → i < from → getD zs i d ≡ getD xs i d
+  pub inside : (r : ℕ) → r < count → getD zs (from + r) d ≡ f r
+  pub after : (i : ℕ) → from + count ≤ i → getD zs i d ≡ getD xs i d
+
+-- those of ys
+abbrev pub Replaced : {A : Type 0} → A → ℕ → ℕ → List A → List A → List A → Type 0
+Replaced d from count xs ys zs = Filled d from count (λ r. getD ys r d) xs zs

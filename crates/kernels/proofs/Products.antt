@@ -1,17 +1,40 @@
--- Products subtracted one by one: one more, and a run of them that follows another. Assumes nothing.
-use Prim.Native.Nat.{ℕ, zero, suc, _+_, _-_, _≤_, _<_}
+-- Products, and products subtracted one by one: one more, and a run of them that follows another. Assumes nothing.
+use Prim.Native.Nat.{ℕ, zero, suc, _+_, _-_, _*_, _≤_, _<_}
+use native.Mathlib.Nat as Nat
 use native.Mathlib.Nat.{add-zero, add-suc}
 use native.Mathlib.Numerals.{add-one}
 use native.Mathlib.Omega.{arith}
 use mathlib.Core.Path.{_≡_, refl, sym, ap, ap₂, _∙_}
+use mathlib.Core.Bool.{Bool, true, false, cond}
 use mathlib.Core.List.{List}
+use lib.Dec.{eqb}
 use lib.ListN.{length, getD, take, drop, length-take}
 use lib.Seq.{getD-take}
-use lib.Ieee.{Float, nan, binary64, sub, mul}
+use lib.Ieee.{Float, nan, inf, fin, Format, binary64, sub, mul, round, unlike, up, down}
 use Rattle.calls.specs.Arithmetic.{minusProducts}
 use Rattle.calls.proofs.Columns.{products-same}
-use Rattle.solve.specs.Kernels.{risingFrom, fallingFrom}
-use Rattle.solve.proofs.Parts.{getD-part, length-part}
+use Rattle.kernels.specs.Kernels.{risingFrom, fallingFrom}
+use Rattle.kernels.proofs.Parts.{getD-part, length-part}
+
+unlike-comm : (s t : Bool) → unlike s t ≡ unlike t s
+unlike-comm false false = refl
+unlike-comm false true = refl
+unlike-comm true false = refl
+unlike-comm true true = refl
+
+pub mul-comm : (f : Format) (x y : Float) → mul f x y ≡ mul f y x
+unfolding mul
+mul-comm f nan nan = refl
+mul-comm f nan (inf t) = refl
+mul-comm f nan (fin t n d) = refl
+mul-comm f (inf s) nan = refl
+mul-comm f (inf s) (inf t) = ap inf (unlike-comm s t)
+mul-comm f (inf s) (fin t n d) = ap (λ u. cond (eqb n 0) nan (inf u)) (unlike-comm s t)
+mul-comm f (fin s m e) nan = refl
+mul-comm f (fin s m e) (inf t) = ap (λ u. cond (eqb m 0) nan (inf u)) (unlike-comm s t)
+mul-comm f (fin s m e) (fin t n d) =
+    ap (λ u. round f u (m * up e * (n * up d)) (down e * down d)) (unlike-comm s t)
+    ∙ ap₂ (round f (unlike t s)) (Nat.mul-comm (m * up e) (n * up d)) (Nat.mul-comm (down e) (down d))
 
 pub minus-none : (x y : ℕ → Float) (t : Float) → minusProducts x y 0 t ≡ t
 unfolding minusProducts

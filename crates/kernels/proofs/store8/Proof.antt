@@ -1,12 +1,12 @@
 use native.Mathlib.Omega.{arith}
 use Prim.Native.Nat.{_-_, _≤_}
-use mathlib.Core.Path.{_≡_}
+use mathlib.Core.Path.{_≡_, refl}
 use denote.Ref.{now}
 use lib.Ieee.{nan}
-use Rattle.solve.specs.Kernels.{Replaced}
-use Rattle.solve.proofs.Parts.{replaced-none, replaced-next}
-use Rattle.solve.proofs.kernels.store8.Statement.{statement}
-use Rattle.solve.proofs.kernels.store8.Tie as tie
+use Rattle.kernels.specs.Kernels.{Replaced}
+use Rattle.kernels.proofs.Parts.{filled-none, filled-next}
+use Rattle.kernels.proofs.store8.Statement.{statement}
+use Rattle.kernels.proofs.store8.Tie as tie
 
 abbrev Inv-loop : tie.InvT-loop
 Inv-loop v₀ at values s₀ v s = (s ≤ 8) × Replaced nan at s v₀ values v
@@ -15,7 +15,7 @@ abbrev μ-loop : tie.MeasureT-loop
 μ-loop v₀ at values s₀ v s = 8 - s
 
 loop-holds : tie.Need-loop-holds Inv-loop μ-loop
-loop-holds c = (omega arith, replaced-none nan _ _ _)
+loop-holds c = (omega arith, filled-none nan _ _ _)
 
 mul-v : tie.Need-mul-v Inv-loop μ-loop
 mul-v c = omega arith
@@ -39,7 +39,7 @@ loop-less : tie.Need-loop-less Inv-loop μ-loop
 loop-less c = omega arith
 
 loop-again : tie.Need-loop-again Inv-loop μ-loop
-loop-again c = (omega arith, replaced-next nan (c .before .before .args .at) (now (c .before .before .args .v)) (c .before .before .args .t3) (c .before .loop .s) (c .before .loop .v) (omega arith) (c .before .loop .inv .1))
+loop-again c = (omega arith, filled-next nan (c .before .before .args .at) _ (now (c .before .before .args .v)) (c .before .loop .s) (c .before .loop .v) _ (omega arith) (c .before .loop .inv .1) refl)
 
 same-length : tie.Need-same-length Inv-loop μ-loop
 same-length c = c .before .loop .inv .1 .size

@@ -5,9 +5,9 @@ use denote.Ref.{now}
 use lib.ListN.{length, getD}
 use lib.Seq.{ext-getD}
 use lib.Ieee.{nan}
-use Rattle.solve.proofs.Loops.{Stored, stored-none, stored-next}
-use Rattle.solve.proofs.kernels.copy.Statement.{statement}
-use Rattle.solve.proofs.kernels.copy.Tie as tie
+use Rattle.kernels.proofs.Loops.{Stored, stored-none, stored-next}
+use Rattle.kernels.proofs.copy.Statement.{statement}
+use Rattle.kernels.proofs.copy.Tie as tie
 
 abbrev Inv-loop : tie.InvT-loop
 Inv-loop from to₀ k₀ to k = (k ≤ length to₀) × Stored nan (λ q. getD from q nan) to₀ k to

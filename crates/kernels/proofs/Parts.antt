@@ -6,7 +6,7 @@ use mathlib.Core.Path.{_≡_, refl, ap, _∙_}
 use mathlib.Core.List.{List, _++_}
 use lib.ListN.{length, getD, set, take, drop, length-append, length-set, length-take, length-drop, List·getD-append}
 use lib.Seq.{getD-take, getD-drop, getD-append-add, getD-set-same, getD-set-other}
-use Rattle.solve.specs.Kernels.{Replaced}
+use Rattle.kernels.specs.Kernels.{Filled, Replaced}
 
 module _ {A : Type 0} (d : A) where
   -- an element of the part is one of the whole
@@ -60,23 +60,23 @@ module _ {A : Type 0} (d : A) where
               getD-second ys (drop k xs) i k same (omega arith) ∙ getD-drop k xs (i - k) d ∙ ap (λ q. getD xs q d) at;
         }
 
-  -- a loop that stores ys from a on
-  module _ (a : ℕ) (xs ys : List A) where
-    pub replaced-none : Replaced d a 0 xs ys xs
-    replaced-none = record { size = refl; before = λ i h. refl; inside = λ r h. absurd (omega arith); after = λ i h. refl }
+  -- a loop that stores f 0, f 1, .. from a on
+  module _ (a : ℕ) (f : ℕ → A) (xs : List A) where
+    pub filled-none : Filled d a 0 f xs xs
+    filled-none = record { size = refl; before = λ i h. refl; inside = λ r h. absurd (omega arith); after = λ i h. refl }
 
-    pub replaced-next :
-        (k : ℕ) (zs : List A) → a + k < length xs → Replaced d a k xs ys zs → Replaced d a (k + 1) xs ys (set zs (a + k) (getD ys k d))
-    replaced-next k zs room so =
+    pub filled-next :
+        (k : ℕ) (zs : List A) (x : A) → a + k < length xs → Filled d a k f xs zs → x ≡ f k → Filled d a (k + 1) f xs (set zs (a + k) x)
+    filled-next k zs x room so e =
         record {
-          size = length-set zs (a + k) (getD ys k d) ∙ so .size;
-          before = λ i h. getD-set-other zs (a + k) i (getD ys k d) d (λ g. omega arith) ∙ so .before i h;
+          size = length-set zs (a + k) x ∙ so .size;
+          before = λ i h. getD-set-other zs (a + k) i x d (λ g. omega arith) ∙ so .before i h;
           inside = λ r h.
               elim (decLt r k) [
-                | yes before ↦ getD-set-other zs (a + k) (a + r) (getD ys k d) d (λ g. omega arith) ∙ so .inside r before
+                | yes before ↦ getD-set-other zs (a + k) (a + r) x d (λ g. omega arith) ∙ so .inside r before
                 | no after ↦
                     let here : r ≡ k = omega arith in
-                    rw here (getD-set-same zs (a + k) (getD ys k d) d (omega (arith, so .size)))
+                    rw here (getD-set-same zs (a + k) x d (omega (arith, so .size)) ∙ e)
               ];
-          after = λ i h. getD-set-other zs (a + k) i (getD ys k d) d (λ g. omega arith) ∙ so .after i (omega arith);
+          after = λ i h. getD-set-other zs (a + k) i x d (λ g. omega arith) ∙ so .after i (omega arith);
         }

@@ -1,10 +1,10 @@
-// Loops over values: products subtracted one by one, for one value or for eight at once. The eight are independent, so that the machine works on
-// several while each keeps its order.
+// Loops over values that know nothing of a matrix: copies, and products subtracted one by one, for one value or for 8 or 16 at once. Those are
+// independent, so that the machine works on several while each keeps its order.
 ghost use mathlib.Core.Path.{_≡_};
 ghost use Prim.Native.Nat.{ℕ, _+_, _≤_, _<_};
 ghost use lib.ListN.{length, getD};
 ghost use lib.Ieee.{nan, binary64, sub, mul};
-ghost use Rattle.solve.specs.Kernels.{MultipleSubtracted, Replaced, risingFrom, fallingFrom};
+ghost use Rattle.kernels.specs.Kernels.{MultipleSubtracted, Replaced, risingFrom, fallingFrom};
 
 // Every value of v less that of x times y.
 pub fn subtract_multiple(v: &mut [f64], x: &[f64], y: f64)
@@ -110,6 +110,58 @@ pub fn store8(v: &mut [f64], at: usize, values: [f64; 8])
 {
     let mut s = 0;
     while s < 8 {
+        v[at + s] = values[s];
+        s += 1;
+    }
+}
+
+// Eight values of x, one at each position at[s] + k.
+pub fn gather8(x: &[f64], at: [usize; 8], k: usize) -> [f64; 8]
+    requires { ⌜ ((s : ℕ) → s < 8 → getD at s 0 + k < length (now x)) ⌝ }
+    ensures { λ r. ⌜ ((s : ℕ) → s < 8 → getD r s nan ≡ getD (now (x .entry)) (getD at s 0 + k) nan) ⌝ }
+{
+    let mut values = [0.0; 8];
+    let mut s = 0;
+    while s < 8 {
+        values[s] = x[at[s] + k];
+        s += 1;
+    }
+    values
+}
+
+// Sixteen values less the products of x[at + s] and y.
+pub fn step16(t: [f64; 16], x: &[f64], at: usize, y: f64) -> [f64; 16]
+    requires { ⌜ at + 16 ≤ length (now x) ⌝ }
+    ensures { λ r. ⌜ ((s : ℕ) → s < 16 → getD r s nan ≡ sub binary64 (getD t s nan) (mul binary64 (getD (now (x .entry)) (at + s) nan) y)) ⌝ }
+{
+    let mut next = t;
+    let mut s = 0;
+    while s < 16 {
+        next[s] = next[s] - x[at + s] * y;
+        s += 1;
+    }
+    next
+}
+
+pub fn load16(v: &[f64], at: usize) -> [f64; 16]
+    requires { ⌜ at + 16 ≤ length (now v) ⌝ }
+    ensures { λ r. ⌜ ((s : ℕ) → s < 16 → getD r s nan ≡ getD (now (v .entry)) (at + s) nan) ⌝ }
+{
+    let mut values = [0.0; 16];
+    let mut s = 0;
+    while s < 16 {
+        values[s] = v[at + s];
+        s += 1;
+    }
+    values
+}
+
+pub fn store16(v: &mut [f64], at: usize, values: [f64; 16])
+    requires { ⌜ at + 16 ≤ length (now v) ⌝ }
+    ensures { λ _. ⌜ Replaced nan at 16 (now (v .entry)) values (now (v .exit)) ⌝ }
+{
+    let mut s = 0;
+    while s < 16 {
         v[at + s] = values[s];
         s += 1;
     }

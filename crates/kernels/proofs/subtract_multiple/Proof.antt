@@ -5,9 +5,9 @@ use Prim.Native.Nat.{_-_, _≤_}
 use denote.Ref.{now}
 use lib.ListN.{length, getD}
 use lib.Ieee.{Float, nan, binary64, sub, mul}
-use Rattle.solve.proofs.Loops.{Stored, stored-none, stored-next}
-use Rattle.solve.proofs.kernels.subtract_multiple.Statement.{statement}
-use Rattle.solve.proofs.kernels.subtract_multiple.Tie as tie
+use Rattle.kernels.proofs.Loops.{Stored, stored-none, stored-next}
+use Rattle.kernels.proofs.subtract_multiple.Statement.{statement}
+use Rattle.kernels.proofs.subtract_multiple.Tie as tie
 
 abbrev Inv-loop : tie.InvT-loop
 Inv-loop v₀ x y r₀ v r = (r ≤ length v₀) × Stored nan (λ q. sub binary64 (getD v₀ q nan) (mul binary64 (getD x q nan) y)) v₀ r v

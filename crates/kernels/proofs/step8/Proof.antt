@@ -7,9 +7,9 @@ use mathlib.Core.Path.{_≡_}
 use denote.Ref.{now}
 use lib.ListN.{length, getD}
 use lib.Ieee.{Float, nan, binary64, sub, mul}
-use Rattle.solve.proofs.Loops.{Stored, stored-none, stored-next}
-use Rattle.solve.proofs.kernels.step8.Statement.{statement}
-use Rattle.solve.proofs.kernels.step8.Tie as tie
+use Rattle.kernels.proofs.Loops.{Stored, stored-none, stored-next}
+use Rattle.kernels.proofs.step8.Statement.{statement}
+use Rattle.kernels.proofs.step8.Tie as tie
 
 abbrev Inv-loop : tie.InvT-loop
 Inv-loop x k y at next₀ s₀ next s = (s ≤ 8) × (length next₀ ≡ 8) × Stored nan (λ q. sub binary64 (getD next₀ q nan) (mul binary64 (getD x (getD at q 0 + k) nan) y)) next₀ s next

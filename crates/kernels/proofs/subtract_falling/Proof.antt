@@ -3,10 +3,10 @@ use Prim.Native.Nat.{_-_, _≤_}
 use mathlib.Core.Path.{_≡_, sym, ap, _∙_}
 use denote.Ref.{now}
 use lib.ListN.{length}
-use Rattle.solve.specs.Kernels.{fallingFrom}
-use Rattle.solve.proofs.Products.{minus-none, falling-next}
-use Rattle.solve.proofs.kernels.subtract_falling.Statement.{statement}
-use Rattle.solve.proofs.kernels.subtract_falling.Tie as tie
+use Rattle.kernels.specs.Kernels.{fallingFrom}
+use Rattle.kernels.proofs.Products.{minus-none, falling-next}
+use Rattle.kernels.proofs.subtract_falling.Statement.{statement}
+use Rattle.kernels.proofs.subtract_falling.Tie as tie
 
 abbrev Inv-loop : tie.InvT-loop
 Inv-loop t x at y value₀ k₀ value k = (k ≤ length y) × (value ≡ fallingFrom x at y (length y - k) t)

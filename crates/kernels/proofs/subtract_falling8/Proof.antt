@@ -4,10 +4,10 @@ use mathlib.Core.Path.{_≡_, sym, ap, _∙_}
 use denote.Ref.{now}
 use lib.ListN.{length, getD}
 use lib.Ieee.{nan}
-use Rattle.solve.specs.Kernels.{fallingFrom}
-use Rattle.solve.proofs.Products.{minus-none, falling-next}
-use Rattle.solve.proofs.kernels.subtract_falling8.Statement.{statement}
-use Rattle.solve.proofs.kernels.subtract_falling8.Tie as tie
+use Rattle.kernels.specs.Kernels.{fallingFrom}
+use Rattle.kernels.proofs.Products.{minus-none, falling-next}
+use Rattle.kernels.proofs.subtract_falling8.Statement.{statement}
+use Rattle.kernels.proofs.subtract_falling8.Tie as tie
 
 abbrev Inv-loop : tie.InvT-loop
 Inv-loop x at y values₀ k₀ values k = (k ≤ length y) × ((s : ℕ) → s < 8 → getD values s nan ≡ fallingFrom x (getD at s 0) y (length y - k) (getD values₀ s nan))

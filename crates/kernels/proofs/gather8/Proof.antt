@@ -1,0 +1,69 @@
+use native.Mathlib.Omega.{arith}
+use Prim.Native.Nat.{_+_, _-_, _≤_}
+use mathlib.Core.Path.{_≡_, refl}
+use lib.ListN.{length, getD}
+use lib.Ieee.{nan}
+use Rattle.kernels.proofs.Loops.{Stored, stored-none, stored-next}
+use Rattle.kernels.proofs.gather8.Statement.{statement}
+use Rattle.kernels.proofs.gather8.Tie as tie
+
+abbrev Inv-loop : tie.InvT-loop
+Inv-loop x k at values₀ s₀ values s = (s ≤ 8) × (length values₀ ≡ 8) × Stored nan (λ q. getD x (getD at q 0 + k) nan) values₀ s values
+
+abbrev μ-loop : tie.MeasureT-loop
+μ-loop x k at values₀ s₀ values s = 8 - s
+
+loop-holds : tie.Need-loop-holds Inv-loop μ-loop
+loop-holds c = (omega arith, refl, stored-none nan _ _)
+
+mul-values : tie.Need-mul-values Inv-loop μ-loop
+mul-values c = omega arith
+
+array-read-values : tie.Need-array-read-values Inv-loop μ-loop
+array-read-values c = omega arith
+
+add-values : tie.Need-add-values Inv-loop μ-loop
+add-values c = omega (arith, c .before .before .pre (c .before .loop .s) (c .loop-test .taken))
+
+mul-values-2 : tie.Need-mul-values-2 Inv-loop μ-loop
+mul-values-2 c = omega (arith, c .before .before .pre (c .before .loop .s) (c .loop-test .taken))
+
+shared-slice-read-values : tie.Need-shared-slice-read-values Inv-loop μ-loop
+shared-slice-read-values c = omega (arith, c .before .before .before .pre (c .before .before .loop .s) (c .before .loop-test .taken))
+
+mul-values-3 : tie.Need-mul-values-3 Inv-loop μ-loop
+mul-values-3 c = omega arith
+
+array-write-values : tie.Need-array-write-values Inv-loop μ-loop
+array-write-values c = omega arith
+
+add-s : tie.Need-add-s Inv-loop μ-loop
+add-s c = omega arith
+
+loop-less : tie.Need-loop-less Inv-loop μ-loop
+loop-less c = omega arith
+
+loop-again : tie.Need-loop-again Inv-loop μ-loop
+loop-again c = (omega arith, c .before .before .loop .inv .1, stored-next nan _ _ (c .before .before .loop .s) (c .before .before .loop .values) _ (omega arith) (c .before .before .loop .inv .2) refl)
+
+returns : tie.Need-returns Inv-loop μ-loop
+returns c = λ s h. c .before .loop .inv .2 .done s (omega arith)
+
+pub gather8-spec : {M : Type 1} → statement M
+gather8-spec =
+    tie.close
+    (tie.spec
+    Inv-loop
+    μ-loop
+    loop-holds
+    mul-values
+    array-read-values
+    add-values
+    mul-values-2
+    shared-slice-read-values
+    mul-values-3
+    array-write-values
+    add-s
+    loop-less
+    loop-again
+    returns)

@@ -1,0 +1,2 @@
+-- What the loops over values promise.
+pub mod Kernels
