@@ -43,7 +43,7 @@ pub extern "C" fn metsovary_factor_plain(
 ) -> CallResult
     ensures { λ r. ⌜ DoneAs (factorize Packed (shape .order) (shape .block) (now (matrix .entry)) (now (work .entry))) r (now (matrix .exit)) (now (work .exit)) ⌝ }
 {
-    factor::factor_plain(shape, matrix, work)
+    plain_factor::factor(shape, matrix, work)
 }
 
 #[no_mangle]
@@ -54,7 +54,7 @@ pub extern "C" fn metsovary_factor_blocked(
 ) -> CallResult
     ensures { λ r. ⌜ DoneAs (factorize Blocked (shape .order) (shape .block) (now (matrix .entry)) (now (work .entry))) r (now (matrix .exit)) (now (work .exit)) ⌝ }
 {
-    factor::factor_blocked(shape, matrix, work)
+    blocked_factor::factor(shape, matrix, work)
 }
 
 #[no_mangle]

@@ -27,7 +27,7 @@ pub fn plain_pipeline(
 ) -> PipelineResult
     ensures { λ r. ⌜ ended r (now (matrix .exit)) (now (rhs .exit)) (now (work .exit)) ≡ plainPipeline (shape .order) (shape .block) m (now (matrix .entry)) (now (rhs .entry)) (now (work .entry)) ⌝ }
 {
-    let factor = factor::factor_plain(shape, matrix, work);
+    let factor = plain_factor::factor(shape, matrix, work);
     if factor.code != 0 {
         return PipelineResult {
             factor,
@@ -49,7 +49,7 @@ pub fn blocked_pipeline(
     ensures { λ r. ⌜ ended r (now (matrix .exit)) (now (rhs .exit)) (now (work .exit)) ≡ blockedPipeline (shape .order) (shape .block) m (now (matrix .entry)) (now (rhs .entry)) (now (work .entry)) ⌝ }
 {
     rearrange::packed_to_blocked(shape, matrix, work);
-    let factor = factor::factor_blocked(shape, matrix, work);
+    let factor = blocked_factor::factor(shape, matrix, work);
     if factor.code != 0 {
         return PipelineResult {
             factor,

@@ -5,8 +5,8 @@ use borrow.Author.Needs.{needs}
 use Rattle.engine.proofs.pipelines.plain_pipeline.Statement.{statement}
 use Rattle.engine.proofs.pipelines.plain_pipeline.Tie as tie
 
-factor-plain-requires : tie.Need-factor-plain-requires
-factor-plain-requires c κs = search needs
+factor-requires : tie.Need-factor-requires
+factor-requires c κs = search needs
 
 same-length : tie.Need-same-length
 same-length c = search needs
@@ -17,7 +17,7 @@ same-length-2 c = search needs
 returns : tie.Need-returns
 returns c =
     let a = c .before .before .before .before .before .before .before .before .before .before .before .before .args in
-    plain-refused (a .shape .order) (a .shape .block) (a .m) (now (a .matrix)) (now (a .rhs)) (now (a .work)) _ _ _ (c .before .before .before .before .before .before .factor-plain .ensures) (c .if1 .taken)
+    plain-refused (a .shape .order) (a .shape .block) (a .m) (now (a .matrix)) (now (a .rhs)) (now (a .work)) _ _ _ (c .before .before .before .before .before .before .factor .ensures) (c .if1 .taken)
 
 solve-plain-requires : tie.Need-solve-plain-requires
 solve-plain-requires c κs = search needs
@@ -34,13 +34,13 @@ same-length-5 c = search needs
 returns-2 : tie.Need-returns-2
 returns-2 c =
     let a = c .before .before .before .before .before .before .before .before .before .before .before .before .before .before .before .before .before .before .before .before .args in
-    plain-accepted (a .shape .order) (a .shape .block) (a .m) (now (a .matrix)) (now (a .rhs)) (now (a .work)) _ _ _ (c .before .before .before .before .before .before .before .before .before .before .before .before .before .before .factor-plain .ensures) (c .before .before .before .before .before .before .before .before .if1 .left) _ _ _ (c .before .before .before .before .solve-plain .ensures)
+    plain-accepted (a .shape .order) (a .shape .block) (a .m) (now (a .matrix)) (now (a .rhs)) (now (a .work)) _ _ _ (c .before .before .before .before .before .before .before .before .before .before .before .before .before .before .factor .ensures) (c .before .before .before .before .before .before .before .before .if1 .left) _ _ _ (c .before .before .before .before .solve-plain .ensures)
 
 pub plain-pipeline-spec : {M : Type 1} → statement M
 plain-pipeline-spec =
     tie.close
     (tie.spec
-    factor-plain-requires
+    factor-requires
     same-length
     same-length-2
     returns

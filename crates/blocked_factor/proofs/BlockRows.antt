@@ -1,0 +1,26 @@
+-- The rows of a block column, by where they start: they lie end to end. They belong to crate shape. Assumes nothing.
+use Prim.Native.Nat.{ℕ, _+_, _≤_, _<_}
+use native.Mathlib.Omega.{arith}
+use mathlib.Core.Path.{_≡_}
+use Rattle.shape.proofs.Parts.{starts, starts-mono, starts-lt, starts-apart}
+use Rattle.shape.proofs.Rows.{rowLength, place-in-block-row, place-in-block-next-row}
+use Rattle.blocked_factor.specs.BlockColumns.{rowStart}
+
+module _ (w : ℕ) where
+  row-starts : (r : ℕ) → rowStart w r ≡ starts (rowLength w) r
+  row-starts r = omega (arith, place-in-block-row w r 0)
+
+  pub row-next : (r : ℕ) → rowStart w (r + 1) ≡ rowStart w r + rowLength w r
+  row-next r = place-in-block-next-row w r 0
+
+  pub row-mono : (r e : ℕ) → r ≤ e → rowStart w r ≤ rowStart w e
+  row-mono r e h = omega (arith, row-starts r, row-starts e, starts-mono (rowLength w) r e h)
+
+  pub row-within : (r e : ℕ) → r < e → rowStart w r + rowLength w r ≤ rowStart w e
+  row-within r e h = omega (arith, row-next r, row-mono (r + 1) e (omega arith))
+
+  pub row-lt : (r e s : ℕ) → r < e → s < rowLength w r → rowStart w r + s < rowStart w e
+  row-lt r e s h inside = omega (arith, row-starts r, row-starts e, starts-lt (rowLength w) r e s h inside)
+
+  pub row-apart : (r r′ s s′ : ℕ) → s < rowLength w r → s′ < rowLength w r′ → rowStart w r + s ≡ rowStart w r′ + s′ → (r ≡ r′) × (s ≡ s′)
+  row-apart r r′ s s′ h h′ e = starts-apart (rowLength w) r r′ s s′ h h′ (omega (arith, row-starts r, row-starts r′))

@@ -1,0 +1,14 @@
+-- Laws that the proofs of this crate share.
+pub mod Products
+pub mod BlockRows
+pub mod Lanes
+pub mod Packing
+pub mod Panels
+pub mod Finishing
+pub mod ColumnVerdicts
+pub mod Stages
+pub mod Runs
+pub mod EarlierBlocks
+pub mod BlockParts
+pub mod BlockLoop
+pub mod BlockOutcomes

@@ -1,0 +1,80 @@
+-- `blocked_factor::factor_part` meets its contract. Assumes nothing.
+use Prim.Native.Nat.{_≤_}
+use lib.ListN.{length}
+use Rattle.blocked_factor.proofs.BlockParts.{whole-put}
+use native.Mathlib.Omega.{arith}
+use Rattle.shape.specs.Places.{blockStart}
+use Rattle.shape.proofs.Blocks.{width-le}
+use Rattle.blocked_factor.proofs.BlockParts.{part-length, block-room, block-factored}
+use borrow.Author.Needs.{needs}
+use Rattle.blocked_factor.proofs.factor_part.Statement.{statement}
+use Rattle.blocked_factor.proofs.factor_part.Tie as tie
+
+update-by-all-requires : tie.Need-update-by-all-requires
+update-by-all-requires c κs = search needs
+
+block-start-requires : tie.Need-block-start-requires
+block-start-requires c κs = search needs
+
+block-width-requires : tie.Need-block-width-requires
+block-width-requires c κs = search needs
+
+mul-factor-block : tie.Need-mul-factor-block
+mul-factor-block c = omega (arith, c .before .block-start .ensures, block-room (c .before .before .before .before .before .before .before .before .before .before .before .pre .0), c .before .before .before .before .before .before .before .before .before .before .before .good)
+
+sub-factor-block : tie.Need-sub-factor-block
+sub-factor-block c = omega (arith, c .before .block-start .ensures, block-room (c .before .before .before .before .before .before .before .before .before .before .before .pre .0), c .before .before .before .before .before .before .update-by-all .ensures .kept)
+
+part-factor-block-start : tie.Need-part-factor-block-start
+part-factor-block-start c = omega (arith, c .before .block-start .ensures, block-room (c .before .before .before .before .before .before .before .before .before .before .before .pre .0), c .before .before .before .before .before .before .update-by-all .ensures .kept)
+
+part-factor-block-end : tie.Need-part-factor-block-end
+part-factor-block-end c = search needs
+
+sub-factor-block-2 : tie.Need-sub-factor-block-2
+sub-factor-block-2 c = search needs
+
+factor-block-requires : tie.Need-factor-block-requires
+factor-block-requires c κs =
+    let a = c .before .before .before .before .before .before .before .before .before .before .before .before .before .before .args in
+    let m = c .before .before .before .before .before .before .before .before .before .update-by-all .last .0 in
+    rw (c .before .before .before .before .block-start .ensures, c .before .before .before .block-width .ensures) (
+      (
+        width-le (a .shape .order) (a .shape .block) (a .c),
+        omega (arith, c .before .before .before .before .before .before .before .before .before .before .before .before .before .before .pre .0 .order, c .before .before .before .before .before .before .before .before .before .before .before .before .before .before .pre .0 .inside),
+        omega (arith, part-length m (blockStart (a .shape .order) (a .c)), block-room (c .before .before .before .before .before .before .before .before .before .before .before .before .before .before .pre .0), c .before .before .before .before .before .before .before .before .before .update-by-all .ensures .kept),
+      ),
+      (λ wide. omega (arith, c .before .before .before .before .before .before .before .before .before .before .before .before .before .before .pre .1 .own wide, c .before .before .before .before .before .before .before .before .before .update-by-all .kept .1 .0)),
+    )
+
+same-length : tie.Need-same-length
+same-length c = search needs
+
+same-length-2 : tie.Need-same-length-2
+same-length-2 c = search needs
+
+returns : tie.Need-returns
+returns c =
+    let a = c .before .before .before .before .before .before .before .before .before .before .before .before .before .before .before .before .before .before .before .args in
+    let m = c .before .before .before .before .before .before .before .before .before .before .before .before .before .before .update-by-all .last .0 in
+    let room : blockStart (a .shape .order) (a .c) ≤ length m = omega (arith, block-room (c .before .before .before .before .before .before .before .before .before .before .before .before .before .before .before .before .before .before .before .pre .0), c .before .before .before .before .before .before .before .before .before .before .before .before .before .before .update-by-all .ensures .kept) in
+    rw (c .before .before .before .before .before .before .before .before .before .block-start .ensures, whole-put m (c .before .before .before .before .factor-block .last .0) (blockStart (a .shape .order) (a .c)) room)
+    (block-factored (a .m .now) m (c .before .before .before .before .factor-block .last .0) (c .before .before .before .before .factor-block .result) (c .before .before .before .before .before .before .before .before .before .before .before .before .before .before .before .before .before .before .before .pre .0) (c .before .before .before .before .before .before .before .before .before .before .before .before .before .before .update-by-all .ensures)
+    (rw (c .before .before .before .before .before .before .before .before .before .block-start .ensures, c .before .before .before .before .before .before .before .before .block-width .ensures) at (c .before .before .before .before .factor-block .ensures)))
+
+pub factor-part-spec : {M : Type 1} → statement M
+factor-part-spec =
+    tie.close
+    (tie.spec
+    update-by-all-requires
+    block-start-requires
+    block-width-requires
+    mul-factor-block
+    sub-factor-block
+    part-factor-block-start
+    part-factor-block-end
+    sub-factor-block-2
+    factor-block-requires
+    same-length
+    same-length-2
+    returns)

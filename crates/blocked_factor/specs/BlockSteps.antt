@@ -1,0 +1,82 @@
+-- What the steps of the blocked factor promise of the whole matrix memory.
+use Prim.Native.Nat.{ℕ, _+_, _-_, _*_, _≤_, _<_}
+use mathlib.Core.Path.{_≡_}
+use mathlib.Core.Bool.{false}
+use mathlib.Core.List.{List}
+use lib.Dec.{T}
+use lib.ListN.{length, getD}
+use lib.Ieee.{Float, nan}
+use Rattle.shape.specs.Bounds.{maxOrder, maxBlock}
+use Rattle.shape.specs.Places.{triangle, blockOf, blockStart, width, blockedPlace, blockWork}
+use Rattle.shape.specs.Layouts.{Entry}
+use Rattle.calls.specs.declared.CallResult.{CallResult}
+use Rattle.calls.specs.Triangles.{Triangle, entry}
+use Rattle.calls.specs.Refusals.{success, accepted, lowestRefusal}
+use Rattle.calls.specs.declared.Layout.the-variants.{Blocked}
+use Rattle.calls.specs.Calls.{finished}
+use Rattle.blocked_factor.specs.BlockStages.{factorEntry, judgeColumn}
+
+-- column c begins a block column of a matrix of order n in a memory of its length
+pub record BlockAt (n b c len : ℕ) : Type 0 where
+  pub order : n ≤ maxOrder
+  pub block : 0 < b
+  pub blockHigh : b ≤ maxBlock
+  pub inside : c < n
+  pub first : blockOf b c ≡ c
+  pub size : len ≡ triangle n
+
+-- room for a panel of the products of an earlier block column, and of the block column's own
+pub record SpareRoom (n b c spare : ℕ) : Type 0 where
+  pub earlier : 0 < c → 16 ≤ width n b c → 16 * b ≤ spare
+  pub own : 16 ≤ width n b c → 16 * (width n b c - 16) ≤ spare
+
+-- the first places of a work memory hold the values from place `start` on
+pub record Saved (start size : ℕ) (m work′ : List Float) : Type 0 where
+  pub value : (k : ℕ) → k < size → getD work′ k nan ≡ getD m (start + k) nan
+
+-- row c + r of the matrix
+abbrev pub rowOf : ℕ → ℕ → ℕ → List Float → ℕ → ℕ → Float
+rowOf n b c m r = λ k. getD m (blockedPlace n b (c + r) k) nan
+
+-- columns before c are finished, and the others hold the matrix's entries
+pub record FactoredTo (n b : ℕ) (a : Triangle) (c : ℕ) (m : List Float) : Type 0 where
+  pub finished : (i j : ℕ) → Entry n i j → j < c → getD m (blockedPlace n b i j) nan ≡ factorEntry n a i j
+  pub entries : (i j : ℕ) → Entry n i j → c ≤ j → getD m (blockedPlace n b i j) nan ≡ entry a i j
+
+-- The block column at c is finished where it is accepted. Places before it and past it are as they were.
+pub record BlockFactored (n b c : ℕ) (m : List Float) (answer : CallResult) (m′ : List Float) : Type 0 where
+  pub kept : length m′ ≡ length m
+  pub before : (p : ℕ) → p < blockStart n c → getD m′ p nan ≡ getD m p nan
+  pub after : (p : ℕ) → blockStart n (c + width n b c) ≤ p → getD m′ p nan ≡ getD m p nan
+  pub verdict :
+      (a : Triangle) → FactoredTo n b a c m → lowestRefusal (judgeColumn n a) c ≡ success →
+      answer ≡ lowestRefusal (judgeColumn n a) (c + width n b c)
+  pub finished :
+      (a : Triangle) → FactoredTo n b a c m → lowestRefusal (judgeColumn n a) c ≡ success → T (accepted answer) →
+      FactoredTo n b a (c + width n b c) m′
+
+-- The same, and all memory as it was where a column is refused.
+pub record BlockDone (n b c : ℕ) (m : List Float) (answer : CallResult) (m′ : List Float) : Type 0 where
+  pub kept : length m′ ≡ length m
+  pub restored : accepted answer ≡ false → m′ ≡ m
+  pub verdict :
+      (a : Triangle) → FactoredTo n b a c m → lowestRefusal (judgeColumn n a) c ≡ success →
+      answer ≡ lowestRefusal (judgeColumn n a) (c + width n b c)
+  pub finished :
+      (a : Triangle) → FactoredTo n b a c m → lowestRefusal (judgeColumn n a) c ≡ success → T (accepted answer) →
+      FactoredTo n b a (c + width n b c) m′
+
+-- a matrix of order n and work memory of the needed lengths
+pub record Sized (n b matrixLength workLength : ℕ) : Type 0 where
+  pub order : n ≤ maxOrder
+  pub block : 0 < b
+  pub blockHigh : b ≤ maxBlock
+  pub matrix : matrixLength ≡ triangle n
+  pub work : workLength ≡ blockWork n b
+
+-- Every block column before that of the lowest refused column is finished, and the others hold the matrix's entries.
+pub record BlocksDone (n b : ℕ) (m : List Float) (answer : CallResult) (m′ : List Float) : Type 0 where
+  pub kept : length m′ ≡ length m
+  pub verdict : (a : Triangle) → FactoredTo n b a 0 m → answer ≡ lowestRefusal (judgeColumn n a) n
+  pub columns : (a : Triangle) → FactoredTo n b a 0 m → FactoredTo n b a (finished Blocked n b answer) m′
+  pub bound : (a : Triangle) → FactoredTo n b a 0 m → finished Blocked n b answer ≤ n

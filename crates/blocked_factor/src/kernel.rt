@@ -1,0 +1,102 @@
+// Products subtracted from entries in rising order: from one entry, or from 16 neighbours of a row at once.
+ghost use mathlib.Core.Path.{_≡_};
+ghost use Prim.Native.Nat.{ℕ, _+_, _*_, _≤_, _<_};
+ghost use lib.ListN.{length, getD};
+ghost use lib.Ieee.{nan, binary64, sub, mul};
+ghost use Rattle.calls.specs.Arithmetic.{minusProducts};
+ghost use Rattle.blocked_factor.specs.BlockColumns.{rowAt, laneAt, Filled, LanePacked};
+
+// t less the products of the count values from place x on with those from place y on.
+pub fn minus_products(m: &[f64], x: usize, y: usize, count: usize, t: f64) -> f64
+    requires { ⌜ (x + count ≤ length (now m)) × (y + count ≤ length (now m)) ⌝ }
+    ensures { λ r. ⌜ r ≡ minusProducts (rowAt (now (m .entry)) x) (rowAt (now (m .entry)) y) count t ⌝ }
+{
+    let mut s = t;
+    let mut k = 0;
+    while k < count {
+        s = s - m[x + k] * m[y + k];
+        k += 1;
+    }
+    s
+}
+
+// One product for each lane: x with the values from place `at` of the panel on.
+fn step16(start: [f64; 16], x: f64, panel: &[f64], at: usize) -> [f64; 16]
+    requires { ⌜ at + 16 ≤ length (now panel) ⌝ }
+    ensures { λ r.
+        ⌜ ((t : ℕ) → t < 16 → getD r t nan ≡ sub binary64 (getD start t nan) (mul binary64 x (getD (now (panel .entry)) (at + t) nan))) ⌝ }
+{
+    let mut lanes = start;
+    let mut t = 0;
+    while t < 16 {
+        lanes[t] = lanes[t] - x * panel[at + t];
+        t += 1;
+    }
+    lanes
+}
+
+// Lane t less the products of the count values from place x on with column t of the panel.
+fn kernel16(start: [f64; 16], m: &[f64], x: usize, panel: &[f64], count: usize) -> [f64; 16]
+    requires { ⌜ (x + count ≤ length (now m)) × (16 * count ≤ length (now panel)) ⌝ }
+    ensures { λ r.
+        ⌜ ((t : ℕ) → t < 16 →
+        getD r t nan ≡ minusProducts (rowAt (now (m .entry)) x) (laneAt (now (panel .entry)) t) count (getD start t nan)) ⌝ }
+{
+    let mut lanes = start;
+    let mut k = 0;
+    while k < count {
+        let next = step16(lanes, m[x + k], panel, 16 * k);
+        lanes = next;
+        k += 1;
+    }
+    lanes
+}
+
+fn load16(m: &[f64], at: usize) -> [f64; 16]
+    requires { ⌜ at + 16 ≤ length (now m) ⌝ }
+    ensures { λ r. ⌜ ((t : ℕ) → t < 16 → getD r t nan ≡ getD (now (m .entry)) (at + t) nan) ⌝ }
+{
+    let mut lanes = [0.0; 16];
+    let mut t = 0;
+    while t < 16 {
+        lanes[t] = m[at + t];
+        t += 1;
+    }
+    lanes
+}
+
+fn store16(m: &mut [f64], at: usize, lanes: [f64; 16])
+    requires { ⌜ at + 16 ≤ length (now m) ⌝ }
+    ensures { λ r. ⌜ Filled at 16 (λ t. getD lanes t nan) (now (m .entry)) (now (m .exit)) ⌝ }
+{
+    let mut t = 0;
+    while t < 16 {
+        m[at + t] = lanes[t];
+        t += 1;
+    }
+}
+
+// The 16 entries from place y on, each less the products of the count values from place x on with its column of the panel.
+pub fn update16(m: &mut [f64], panel: &[f64], x: usize, y: usize, count: usize)
+    requires { ⌜ (x + count ≤ length (now m)) × (y + 16 ≤ length (now m)) × (16 * count ≤ length (now panel)) ⌝ }
+    ensures { λ r.
+        ⌜ Filled y 16
+        (λ t. minusProducts (rowAt (now (m .entry)) x) (laneAt (now (panel .entry)) t) count (getD (now (m .entry)) (y + t) nan))
+        (now (m .entry)) (now (m .exit)) ⌝ }
+{
+    let start = load16(m, y);
+    let lanes = kernel16(start, m, x, panel, count);
+    store16(m, y, lanes);
+}
+
+// The count values from place `from` on become lane t of a panel.
+pub fn pack_lane(panel: &mut [f64], m: &[f64], from: usize, t: usize, count: usize)
+    requires { ⌜ (from + count ≤ length (now m)) × (16 * count ≤ length (now panel)) × (t < 16) ⌝ }
+    ensures { λ r. ⌜ LanePacked t count (rowAt (now (m .entry)) from) (now (panel .entry)) (now (panel .exit)) ⌝ }
+{
+    let mut k = 0;
+    while k < count {
+        panel[16 * k + t] = m[from + k];
+        k += 1;
+    }
+}

@@ -1,0 +1,184 @@
+// A panel of a block column: up to 16 of its columns, from whose entries the products of an earlier block column, or of the block column's own
+// earlier columns, are subtracted.
+ghost use mathlib.Core.Path.{_≡_};
+ghost use Prim.Native.Nat.{ℕ, _+_, _-_, _*_, _≤_, _<_, min};
+ghost use lib.ListN.{length, getD};
+ghost use lib.Ieee.{nan};
+ghost use Rattle.shape.specs.Bounds.{maxOrder};
+ghost use Rattle.calls.specs.Arithmetic.{minusProducts};
+ghost use Rattle.blocked_factor.specs.BlockColumns.{rowStart, rowAt, sourceAt, Filled, Packed, PanelUpdated, Source};
+use crate::kernel::minus_products;
+use crate::kernel::pack_lane;
+use crate::kernel::update16;
+use shape::Shape;
+
+// The columns of a panel that the kernel works on at once.
+pub const LANES: usize = 16;
+
+// Where a block column starts in a memory, its columns and its rows.
+pub struct BlockColumn {
+    pub start: usize,
+    pub width: usize,
+    pub rows: usize,
+}
+
+// The smaller of two numbers.
+pub fn least(a: usize, b: usize) -> usize
+    ensures { λ r. ⌜ r ≡ min a b ⌝ }
+{
+    if a < b { a } else { b }
+}
+
+// The entries from place y on, each less its products with a row of the source: the first is row `first`. The values from place x on are
+// the other factors.
+fn update_entries(
+    m: &mut [f64],
+    source: BlockColumn,
+    first: usize,
+    x: usize,
+    y: usize,
+    len: usize,
+    count: usize,
+)
+    requires { ⌜ (x + count ≤ y) × (y + len ≤ length (now m)) × (first + len ≤ maxOrder + 1) ⌝ }
+    requires { ⌜ ((t : ℕ) → t < len → source .start + rowStart (source .width) (first + t) + count ≤ y) ⌝ }
+    ensures { λ r.
+        ⌜ Filled y len
+        (λ t.
+        minusProducts (rowAt (now (m .entry)) x) (rowAt (now (m .entry)) (source .start + rowStart (source .width) (first + t))) count
+        (getD (now (m .entry)) (y + t) nan))
+        (now (m .entry)) (now (m .exit)) ⌝ }
+{
+    let start = source.start;
+    let width = source.width;
+    let mut t = 0;
+    while t < len {
+        let row = start + Shape::place_in_block(width, first + t, 0);
+        let value = minus_products(m, x, row, count, m[y + t]);
+        m[y + t] = value;
+        t += 1;
+    }
+}
+
+// The rows of the source from row `first` on, as the lanes of a panel.
+fn pack(panel: &mut [f64], m: &[f64], source: BlockColumn, first: usize, count: usize)
+    requires { ⌜ (16 * count ≤ length (now panel)) × (first + 16 ≤ maxOrder + 1) ⌝ }
+    requires { ⌜ ((t : ℕ) → t < 16 → source .start + rowStart (source .width) (first + t) + count ≤ length (now m)) ⌝ }
+    ensures { λ r. ⌜ Packed (now (panel .exit)) (now (m .entry)) (source .start) (source .width) first count 16 ⌝ }
+{
+    let start = source.start;
+    let width = source.width;
+    let mut t = 0;
+    while t < 16 {
+        let row = start + Shape::place_in_block(width, first + t, 0);
+        pack_lane(panel, m, row, t, count);
+        t += 1;
+    }
+}
+
+// As `update_entries`; where the row has all of a panel's 16 columns, by the packed panel.
+fn update_row(
+    m: &mut [f64],
+    panel: &[f64],
+    source: BlockColumn,
+    first: usize,
+    x: usize,
+    y: usize,
+    len: usize,
+    count: usize,
+)
+    requires { ⌜ (x + count ≤ y) × (y + len ≤ length (now m)) × (first + len ≤ maxOrder + 1) ⌝ }
+    requires { ⌜ ((t : ℕ) → t < len → source .start + rowStart (source .width) (first + t) + count ≤ y) ⌝ }
+    requires { ⌜ (len ≡ 16 → (16 * count ≤ length (now panel)) × Packed (now panel) (now m) (source .start) (source .width) first count 16) ⌝ }
+    ensures { λ r.
+        ⌜ Filled y len
+        (λ t.
+        minusProducts (rowAt (now (m .entry)) x) (rowAt (now (m .entry)) (source .start + rowStart (source .width) (first + t))) count
+        (getD (now (m .entry)) (y + t) nan))
+        (now (m .entry)) (now (m .exit)) ⌝ }
+{
+    if len == 16 {
+        update16(m, panel, x, y, count);
+    } else {
+        update_entries(m, source, first, x, y, len, count);
+    }
+}
+
+// The columns of a panel, row by row.
+fn update_rows(
+    m: &mut [f64],
+    panel: &[f64],
+    target: BlockColumn,
+    source: BlockColumn,
+    s0: usize,
+    g: usize,
+    count: usize,
+)
+    requires { ⌜ Source (length (now m)) (target .start) (target .width) (target .rows) (source .start) (source .width) (source .rows) s0 g count ⌝ }
+    requires { ⌜ (g ≤ 16)
+        × (g ≡ 16 →
+        (16 * count ≤ length (now panel))
+        × Packed (now panel) (now m) (source .start) (source .width) (source .rows - target .rows + s0) count 16) ⌝ }
+    ensures { λ r.
+        ⌜ PanelUpdated (target .start) (target .width) (target .rows) s0 g
+        (sourceAt (now (m .entry)) (source .start) (source .width) (source .rows - target .rows)) count (now (m .entry)) (now (m .exit)) ⌝ }
+{
+    let above = source.rows - target.rows;
+    let mut r = s0;
+    while r < target.rows {
+        let x = source.start + Shape::place_in_block(source.width, above + r, 0);
+        let y = target.start + Shape::place_in_block(target.width, r, 0) + s0;
+        let len = least(g, r + 1 - s0);
+        update_row(m, panel, source, above + s0, x, y, len, count);
+        r += 1;
+    }
+}
+
+// The g columns from s0 on, less `count` products each; `spare` is overwritten.
+pub fn update_panel(
+    m: &mut [f64],
+    spare: &mut [f64],
+    target: BlockColumn,
+    source: BlockColumn,
+    s0: usize,
+    g: usize,
+    count: usize,
+)
+    requires { ⌜ Source (length (now m)) (target .start) (target .width) (target .rows) (source .start) (source .width) (source .rows) s0 g count ⌝ }
+    requires { ⌜ (g ≤ 16) × (g ≡ 16 → 16 * count ≤ length (now spare)) ⌝ }
+    ensures { λ r.
+        ⌜ PanelUpdated (target .start) (target .width) (target .rows) s0 g
+        (sourceAt (now (m .entry)) (source .start) (source .width) (source .rows - target .rows)) count (now (m .entry)) (now (m .exit)) ⌝ }
+{
+    if g == 16 {
+        let first = source.rows - target.rows + s0;
+        pack(spare, m, source, first, count);
+        update_rows(m, spare, target, source, s0, 16, count);
+    } else {
+        update_rows(m, spare, target, source, s0, g, count);
+    }
+}
+
+// All columns of the target, panel by panel, less the products of the first `count` columns of an earlier block column.
+pub fn update_block(
+    m: &mut [f64],
+    spare: &mut [f64],
+    target: BlockColumn,
+    source: BlockColumn,
+    count: usize,
+)
+    requires { ⌜ Source (length (now m)) (target .start) (target .width) (target .rows) (source .start) (source .width) (source .rows) 0
+        (target .width) count ⌝ }
+    requires { ⌜ (16 ≤ target .width → 16 * count ≤ length (now spare)) ⌝ }
+    ensures { λ r.
+        ⌜ PanelUpdated (target .start) (target .width) (target .rows) 0 (target .width)
+        (sourceAt (now (m .entry)) (source .start) (source .width) (source .rows - target .rows)) count (now (m .entry)) (now (m .exit)) ⌝ }
+{
+    let width = target.width;
+    let mut s0 = 0;
+    while s0 < width {
+        let g = least(16, width - s0);
+        update_panel(m, spare, target, source, s0, g, count);
+        s0 += g;
+    }
+}

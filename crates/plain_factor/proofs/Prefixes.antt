@@ -1,0 +1,207 @@
+-- Packed memory whose columns before j are those of the factor: one column more, and the verdict on all columns. Assumes nothing.
+use Prim.Native.Nat.{ℕ, zero, suc, _+_, _-_, _≤_, _<_}
+use native.Mathlib.Numerals.{add-one}
+use native.Mathlib.Omega.{arith}
+use native.Mathlib.Decide.{decLt}
+use mathlib.Core.Path.{_≡_, refl, sym, ap, ap₂, _∙_}
+use mathlib.Core.Logic.{_⊎_, inl, inr, ⊎-elim}
+use mathlib.Core.Bool.{Bool, true, false, cond, true≢false}
+use mathlib.Core.List.{List, [], _∷_}
+use lib.ListN.{length, getD}
+use lib.Ieee.{Float, nan, binary64, div}
+use Rattle.binary64.specs.Kinds.{finite}
+use Rattle.binary64.specs.Root.{root}
+use Rattle.binary64.specs.Judged.{judged}
+use Rattle.binary64.specs.declared.Pivot.{Pivot}
+use Rattle.binary64.specs.declared.Pivot.the-variants.{Root, Refused}
+use Rattle.shape.specs.Places.{triangle, packedPlace}
+use Rattle.shape.specs.Layouts.{Entry}
+use Rattle.shape.proofs.Bijections.{packed-bijection}
+use Rattle.calls.specs.declared.CallResult.{CallResult}
+use Rattle.calls.specs.Sequences.{iterate, grow, all, tabulate}
+use Rattle.calls.specs.Triangles.{Triangle, entry, height, storeColumn, store}
+use Rattle.calls.specs.Arithmetic.{minusProducts, pivot, quotient, below, factorColumn, cholesky}
+use Rattle.calls.specs.Refusals.{success, accepted, lowestRefusal, firstRefusal, rule10, rule11, columnRules}
+use Rattle.calls.specs.Calls.{columnsVerdict}
+use Rattle.calls.proofs.Sequences.{length-tabulate, getD-tabulate, tabulate-of}
+use Rattle.calls.proofs.Triangles.{entry-load, stored, store-same, store-other}
+use Rattle.calls.proofs.Columns.{columns, column-of, shaped-columns, products-same}
+use Rattle.plain_factor.proofs.Verdicts.{column-pivot-refused, column-rows-refused, column-success}
+use Rattle.plain_factor.specs.Steps.{held, Judged, Factored}
+
+-- ---- steps and tables that agree
+
+iterate-same :
+    {A : Type 0} (f g : ℕ → A → A) (n : ℕ) (x : A) → ((k : ℕ) → k < n → (y : A) → f k y ≡ g k y) → iterate f n x ≡ iterate g n x
+unfolding iterate
+iterate-same f g zero x h = refl
+iterate-same f g (suc k) x h = ap (f k) (iterate-same f g k x (λ i p. h i (omega arith))) ∙ h k (omega arith) (iterate g k x)
+
+tabulate-same : {A : Type 0} (d : A) (f g : ℕ → A) (n : ℕ) → ((k : ℕ) → k < n → f k ≡ g k) → tabulate n f ≡ tabulate n g
+tabulate-same d f g n h =
+    tabulate-of f n (tabulate n g) d (length-tabulate g n) (λ k p. getD-tabulate g n k d p ∙ sym (h k p))
+
+-- ---- one column more
+
+-- m with the columns before j written
+abbrev pub prefixOf : ℕ → List Float → ℕ → List Float
+prefixOf n m j = store (packedPlace n) (columns n (held n m) j) m
+
+-- how column j is judged, from the columns before it
+abbrev pub ruleOf : ℕ → List Float → ℕ → CallResult
+ruleOf n m j = columnRules (height n) (held n m) (columns n (held n m) j) j
+
+pub prefix-none : (n : ℕ) (m : List Float) → m ≡ prefixOf n m 0
+unfolding store cholesky grow iterate
+prefix-none n m = refl
+
+module _ (n : ℕ) (m : List Float) (size : length m ≡ triangle n) where
+  abbrev a : Triangle
+  a = held n m
+
+  abbrev prefix : ℕ → List Float
+  prefix = prefixOf n m
+
+  pub prefix-next : (j : ℕ) → j < n → prefix (suc j) ≡ storeColumn (packedPlace n) j (factorColumn (height n) a j (columns n a j)) (prefix j)
+  unfolding store iterate
+  prefix-next j h =
+      ap (λ k. stored (packedPlace n) (columns n a (suc j)) k m) (shaped-columns n a (suc j) h .count)
+      ∙ ap₂ (storeColumn (packedPlace n) j) (column-of n a (suc j) j (omega arith))
+      (iterate-same (λ k s. storeColumn (packedPlace n) k (getD (columns n a (suc j)) k []) s)
+      (λ k s. storeColumn (packedPlace n) k (getD (columns n a j) k []) s) j m
+      (λ k p s.
+      ap (λ c. storeColumn (packedPlace n) k c s) (column-of n a (suc j) k (omega arith) ∙ sym (column-of n a j k p))))
+      ∙ ap (λ k. storeColumn (packedPlace n) j (factorColumn (height n) a j (columns n a j)) (stored (packedPlace n) (columns n a j) k m))
+      (sym (shaped-columns n a j (omega arith) .count))
+
+  module _ (j : ℕ) (inside : j < n) where
+    abbrev t : Triangle
+    t = held n (prefix j)
+
+    abbrev l : Triangle
+    l = columns n a j
+
+    prefix-before : (i c : ℕ) → c ≤ i → i < n → c < j → entry t i c ≡ entry l i c
+    prefix-before i c low h before =
+        let e : Entry n i c = record { lower = low; inside = h } in
+        entry-load (packedPlace n) n (prefix j) i c e
+        ∙ store-same (packedPlace n) n (packed-bijection n) l j (shaped-columns n a j (omega arith)) m (omega arith) i c nan e before
+
+    prefix-column : (i : ℕ) → j ≤ i → i < n → entry t i j ≡ entry a i j
+    prefix-column i low h =
+        let e : Entry n i j = record { lower = low; inside = h } in
+        entry-load (packedPlace n) n (prefix j) i j e
+        ∙ store-other (packedPlace n) n (packed-bijection n) l j (shaped-columns n a j (omega arith)) m (omega arith) i j nan e (omega arith)
+        ∙ sym (entry-load (packedPlace n) n m i j e)
+
+    prefix-products :
+        (i : ℕ) → j ≤ i → i < n →
+        minusProducts (λ c. entry t i c) (λ c. entry t j c) j (entry t i j) ≡ minusProducts (λ c. entry l i c) (λ c. entry l j c) j (entry a i j)
+    prefix-products i low h =
+        products-same (λ c. entry t i c) (λ c. entry l i c) (λ c. entry t j c) (λ c. entry l j c) j (entry t i j)
+        (λ c p. prefix-before i c (omega arith) h p) (λ c p. prefix-before j c (omega arith) inside p)
+        ∙ ap (minusProducts (λ c. entry l i c) (λ c. entry l j c) j) (prefix-column i low h)
+
+    prefix-pivot : pivot t t j ≡ pivot a l j
+    unfolding pivot
+    prefix-pivot = prefix-products j (omega arith) inside
+
+    prefix-below : below (height n) t j t ≡ below (height n) a j l
+    unfolding below height quotient
+    prefix-below =
+        tabulate-same nan (λ r. quotient t t (root (pivot t t j)) j (j + 1 + r)) (λ r. quotient a l (root (pivot a l j)) j (j + 1 + r)) (n - j - 1)
+        (λ r h. ap₂ (div binary64) (prefix-products (j + 1 + r) (omega arith) (omega arith)) (ap root prefix-pivot))
+
+    pub prefix-rules : columnRules (height n) t t j ≡ columnRules (height n) a l j
+    unfolding columnRules
+    prefix-rules = ap₂ (λ p b. firstRefusal (rule10 j (judged p) ∷ rule11 j b ∷ [])) prefix-pivot prefix-below
+
+    pub prefix-factor-column : factorColumn (height n) t j t ≡ factorColumn (height n) a j l
+    unfolding factorColumn
+    prefix-factor-column = ap₂ (λ p b. root p ∷ b) prefix-pivot prefix-below
+
+  -- a turn of the column loop
+  pub prefix-judged :
+      (j : ℕ) (s s′ : List Float) (r : CallResult) → j < n → s ≡ prefix j → Judged n j s r s′ →
+      (r ≡ ruleOf n m j) × (s′ ≡ cond (accepted r) (prefix (suc j)) (prefix j))
+  prefix-judged j s s′ r inside e g =
+      let g′ : Judged n j (prefix j) r s′ = rw e at g in (
+        g′ .result ∙ prefix-rules j inside,
+        g′ .matrix
+            ∙ ap (λ c. cond (accepted r) (storeColumn (packedPlace n) j c (prefix j)) (prefix j)) (prefix-factor-column j inside)
+            ∙ ap (λ x. cond (accepted r) x (prefix j)) (sym (prefix-next j inside)),
+      )
+
+-- ---- the verdict on all columns
+
+-- a column's rules accept with success, or refuse at the column
+rules-cases :
+    (heightOf : ℕ → ℕ) (a l : Triangle) (j : ℕ) →
+    (columnRules heightOf a l j ≡ success) ⊎ ((accepted (columnRules heightOf a l j) ≡ false) × (columnRules heightOf a l j .place ≡ j))
+rules-cases heightOf a l j = go (judged (pivot a l j)) refl (all finite (below heightOf a j l)) refl
+  where
+    go :
+        (p : Pivot) → judged (pivot a l j) ≡ p → (f : Bool) → all finite (below heightOf a j l) ≡ f →
+        (columnRules heightOf a l j ≡ success) ⊎ ((accepted (columnRules heightOf a l j) ≡ false) × (columnRules heightOf a l j .place ≡ j))
+    go (Root d) e true f = inl (column-success heightOf a l j d e f)
+    go (Root d) e false f = inr (rw (column-rows-refused heightOf a l j d e f) (refl, refl))
+    go (Refused v) e b f = inr (rw (column-pivot-refused heightOf a l j v e) (refl, refl))
+
+module _ (judge : ℕ → CallResult) (j : ℕ) (before : lowestRefusal judge j ≡ success) where
+  lowest-next : judge j ≡ success → lowestRefusal judge (suc j) ≡ success
+  unfolding lowestRefusal
+  lowest-next e = rw (before, e)
+
+  lowest-here : accepted (judge j) ≡ false → (n : ℕ) → j < n → lowestRefusal judge n ≡ judge j
+  unfolding lowestRefusal
+  lowest-here e zero h = absurd (omega arith)
+  lowest-here e (suc n) h =
+      elim (decLt j n) [
+        | yes p ↦ rw (lowest-here e n p, e)
+        | no p ↦
+            let g : n ≡ j = omega arith in
+            rw (g, before)
+      ]
+
+module _ (n : ℕ) (m : List Float) (j : ℕ) (before : lowestRefusal (ruleOf n m) j ≡ success) where
+  pub verdict-next : accepted (ruleOf n m j) ≡ true → lowestRefusal (ruleOf n m) (suc j) ≡ success
+  verdict-next t =
+      ⊎-elim (λ e. lowest-next (ruleOf n m) j before e) (λ w. let z : true ≡ false = sym t ∙ w .0 in absurd (true≢false z))
+      (rules-cases (height n) (held n m) (columns n (held n m) j) j)
+
+  pub verdict-here :
+      (s : List Float) → j < n → s ≡ prefixOf n m j → accepted (ruleOf n m j) ≡ false → Factored n m (ruleOf n m j) s
+  unfolding columnsVerdict
+  verdict-here s inside e f =
+      ⊎-elim (λ g. let z : true ≡ false = sym (ap accepted g) ∙ f in absurd (true≢false z))
+      (λ w.
+      record {
+        result = sym (lowest-here (ruleOf n m) j before f n inside);
+        matrix = e ∙ rw (f, w .1) refl;
+      })
+      (rules-cases (height n) (held n m) (columns n (held n m) j) j)
+
+pub verdict-all :
+    (n : ℕ) (m s : List Float) → lowestRefusal (ruleOf n m) n ≡ success → s ≡ prefixOf n m n → Factored n m success s
+unfolding columnsVerdict
+verdict-all n m s before e = record { result = sym before; matrix = e }
+
+-- ---- a turn of the column loop
+
+module _ (n : ℕ) (m : List Float) (size : length m ≡ triangle n) (j : ℕ) (inside : j < n) (before : lowestRefusal (ruleOf n m) j ≡ success)
+    (s s′ : List Float) (r : CallResult) (written : s ≡ prefixOf n m j) (judged : Judged n j s r s′) where
+  pub columns-refused : accepted r ≡ false → Factored n m r s′
+  columns-refused f =
+      let turn : (r ≡ ruleOf n m j) × (s′ ≡ cond (accepted r) (prefixOf n m (suc j)) (prefixOf n m j)) =
+      prefix-judged n m size j s s′ r inside written judged
+      in
+      rw (turn .0)
+      (verdict-here n m j before s′ inside (turn .1 ∙ ap (λ b. cond b (prefixOf n m (suc j)) (prefixOf n m j)) f) (ap accepted (sym (turn .0)) ∙ f))
+
+  pub columns-continued : accepted r ≡ true → (s′ ≡ prefixOf n m (j + 1)) × (lowestRefusal (ruleOf n m) (j + 1) ≡ success)
+  columns-continued t =
+      let turn : (r ≡ ruleOf n m j) × (s′ ≡ cond (accepted r) (prefixOf n m (suc j)) (prefixOf n m j)) =
+      prefix-judged n m size j s s′ r inside written judged
+      in
+      rw add-one
+      (turn .1 ∙ ap (λ b. cond b (prefixOf n m (suc j)) (prefixOf n m j)) t, verdict-next n m j before (ap accepted (sym (turn .0)) ∙ t))

@@ -1,0 +1,132 @@
+-- A column of work memory against document 01's formulas on the triangle that packed memory holds, and how the column is judged. Assumes nothing.
+use Prim.Native.Nat.{ℕ, _+_, _-_, _≤_, _<_}
+use native.Mathlib.Numerals.{add-one}
+use native.Mathlib.Omega.{arith}
+use mathlib.Core.Path.{_≡_, refl, sym, ap, ap₂, _∙_}
+use mathlib.Core.Bool.{Bool, true, false, cond}
+use mathlib.Core.List.{List, _∷_}
+use borrow.Rule.Slice.PartAt.{part-to-end}
+use lib.ListN.{length, getD, set, take, drop, length-drop}
+use lib.Seq.{getD-drop, drop-cons, getD-set-same, getD-set-other}
+use lib.Ieee.{Float, nan, binary64, div}
+use Rattle.binary64.specs.Kinds.{finite, positive, zero64}
+use Rattle.binary64.specs.Root.{root}
+use Rattle.binary64.specs.Judged.{judged}
+use Rattle.binary64.specs.declared.Pivot.{Pivot}
+use Rattle.binary64.specs.declared.Pivot.the-variants.{Root, Refused}
+use Rattle.shape.specs.Places.{packedPlace}
+use Rattle.calls.specs.Sequences.{all}
+use Rattle.calls.specs.Triangles.{Triangle, entry, height, storeColumn}
+use Rattle.calls.specs.Arithmetic.{minusProducts, pivot, quotient, below, factorColumn}
+use Rattle.calls.specs.Refusals.{success, refusal, firstRefusal, rule11, columnRules}
+use Rattle.calls.proofs.Sequences.{tabulate-of}
+use Rattle.calls.proofs.Triangles.{entry-load}
+use Rattle.calls.proofs.Columns.{products-same}
+use Rattle.plain_factor.specs.Steps.{Column, Filled, reduced, Reduced, held, Divided, Judged}
+
+-- ---- formulas
+
+module _ (n j : ℕ) (m : List Float) where
+  abbrev t : Triangle
+  t = held n m
+
+  products-held :
+      (i : ℕ) → j ≤ i → i < n →
+      reduced n m j j i ≡ minusProducts (λ c. entry t i c) (λ c. entry t j c) j (entry t i j)
+  unfolding reduced
+  products-held i low inside =
+      products-same (λ c. getD m (packedPlace n i c) nan) (λ c. entry t i c) (λ c. getD m (packedPlace n j c) nan) (λ c. entry t j c) j
+      (getD m (packedPlace n i j) nan) (λ c h. at i c (omega arith) inside) (λ c h. at j c (omega arith) (omega arith))
+      ∙ ap (minusProducts (λ c. entry t i c) (λ c. entry t j c) j) (at i j low inside)
+    where
+      at : (r c : ℕ) → c ≤ r → r < n → getD m (packedPlace n r c) nan ≡ entry t r c
+      at r c h h′ = sym (entry-load (packedPlace n) n m r c (record { lower = h; inside = h′ }))
+
+  pub pivot-held : j < n → reduced n m j j j ≡ pivot t t j
+  unfolding pivot
+  pivot-held h = products-held j (omega arith) h
+
+  module _ (w w′ : List Float) (d : Float) (finiteRows : Bool)
+      (size : length w ≡ n) (size′ : length w′ ≡ n) (inside : j < n) (rows : Reduced n m j j j n w) (divided : Divided j d w w′ finiteRows)
+      (root-is : d ≡ root (pivot t t j)) where
+    pub below-held : drop (j + 1) w′ ≡ below (height n) t j t
+    unfolding below height quotient
+    below-held =
+        sym
+        (tabulate-of (λ r. quotient t t (root (pivot t t j)) j (j + 1 + r)) (n - j - 1) (drop (j + 1) w′) nan
+        (length-drop (j + 1) w′ ∙ omega arith)
+        (λ r h.
+        getD-drop (j + 1) w′ r nan
+        ∙ divided .rows (j + 1 + r) (omega arith) (omega arith)
+        ∙ ap₂ (div binary64) (rows (j + 1 + r) (omega arith) (omega arith) ∙ products-held (j + 1 + r) (omega arith) (omega arith)) root-is))
+
+    pub column-held : drop j w′ ≡ factorColumn (height n) t j t
+    unfolding factorColumn
+    column-held =
+        drop-cons w′ j nan (omega arith)
+        ∙ ap₂ (λ x xs. x ∷ xs) (divided .diagonal ∙ root-is) (ap (λ k. drop k w′) (sym (add-one j)) ∙ below-held)
+
+-- ---- verdicts
+
+pub judged-root : (x d : Float) → judged x ≡ Root d → d ≡ root x
+unfolding judged
+judged-root x d e = go (positive x) e
+  where
+    go : (b : Bool) → cond b (Root (root x)) (Refused x) ≡ Root d → d ≡ root x
+    go true e = cc
+    go false e = let z : _≡_ {A = ℕ} 0 1 = cc in absurd (omega arith)
+
+module _ (heightOf : ℕ → ℕ) (a l : Triangle) (j : ℕ) where
+  pub column-pivot-refused : (v : Float) → judged (pivot a l j) ≡ Refused v → columnRules heightOf a l j ≡ refusal 10 j v
+  unfolding columnRules firstRefusal
+  column-pivot-refused v e = rw e
+
+  pub column-rows-refused :
+      (d : Float) → judged (pivot a l j) ≡ Root d → all finite (below heightOf a j l) ≡ false → columnRules heightOf a l j ≡ refusal 11 j zero64
+  unfolding columnRules firstRefusal rule11
+  column-rows-refused d e f = rw (e, f)
+
+  pub column-success :
+      (d : Float) → judged (pivot a l j) ≡ Root d → all finite (below heightOf a j l) ≡ true → columnRules heightOf a l j ≡ success
+  unfolding columnRules firstRefusal rule11
+  column-success d e f = rw (e, f)
+
+-- ---- a column judged
+
+pub rows-divided :
+    (j : ℕ) (d : Float) (w v : List Float) → j < length w →
+    Filled w (λ i. div binary64 (getD w i nan) d) (j + 1) (length w) v →
+    Divided j d w (set v j d) (all finite (take (length (set v j d) - (j + 1)) (drop (j + 1) (set v j d))))
+rows-divided j d w v inside f =
+    record {
+      diagonal = getD-set-same v j d nan (omega (arith, f .size));
+      rows = λ i low h. getD-set-other v j i d nan (λ g. omega arith) ∙ f .done i (omega arith) h;
+      finites = ap (all finite) (part-to-end (set v j d) (j + 1));
+    }
+
+module _ (n j : ℕ) (m w : List Float) (s : Column n j m) (size : length w ≡ n) (rows : Reduced n m j j j n w) where
+  column-pivot : {p : Pivot} → judged (getD w j nan) ≡ p → judged (pivot (held n m) (held n m) j) ≡ p
+  column-pivot e = ap judged (sym (rows j (omega arith) (s .column) ∙ pivot-held n j m (s .column))) ∙ e
+
+  pub pivot-refused : (v : Float) → judged (getD w j nan) ≡ Refused v → Judged n j m (refusal 10 j v) m
+  pivot-refused v e = record { result = sym (column-pivot-refused (height n) (held n m) (held n m) j v (column-pivot e)); matrix = refl }
+
+  module _ (d : Float) (w′ : List Float) (finiteRows : Bool) (e : judged (getD w j nan) ≡ Root d) (size′ : length w′ ≡ n) (divided : Divided j d w w′ finiteRows) where
+    root-is : d ≡ root (pivot (held n m) (held n m) j)
+    root-is = judged-root (pivot (held n m) (held n m) j) d (column-pivot e)
+
+    finite-below : {b : Bool} → finiteRows ≡ b → all finite (below (height n) (held n m) j (held n m)) ≡ b
+    finite-below f = ap (all finite) (sym (below-held n j m w w′ d finiteRows size size′ (s .column) rows divided root-is)) ∙ sym (divided .finites) ∙ f
+
+    pub rows-refused : finiteRows ≡ false → Judged n j m (refusal 11 j zero64) m
+    rows-refused f =
+        record { result = sym (column-rows-refused (height n) (held n m) (held n m) j d (column-pivot e) (finite-below f)); matrix = refl }
+
+    pub column-accepted : (m′ : List Float) → finiteRows ≡ true → m′ ≡ storeColumn (packedPlace n) j (drop j w′) m → Judged n j m success m′
+    column-accepted m′ f stored =
+        record {
+          result = sym (column-success (height n) (held n m) (held n m) j d (column-pivot e) (finite-below f));
+          matrix =
+              stored
+              ∙ ap (λ c. storeColumn (packedPlace n) j c m) (column-held n j m w w′ d finiteRows size size′ (s .column) rows divided root-is);
+        }
