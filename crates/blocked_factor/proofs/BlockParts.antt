@@ -21,7 +21,8 @@ use Rattle.calls.specs.Triangles.{Triangle}
 use Rattle.calls.specs.Arithmetic.{minusProducts}
 use Rattle.calls.specs.Refusals.{success, accepted, lowestRefusal}
 use Rattle.calls.proofs.Columns.{products-same}
-use Rattle.blocked_factor.specs.BlockColumns.{rowStart, Filled, PanelUpdated}
+use Rattle.kernels.specs.Kernels.{Filled}
+use Rattle.blocked_factor.specs.BlockColumns.{rowStart, PanelUpdated}
 use Rattle.blocked_factor.specs.BlockStages.{factorEntry, lessProducts, judgeColumn, Judged, ColumnsFactored}
 use Rattle.blocked_factor.specs.BlockSteps.{BlockAt, SpareRoom, rowOf, FactoredTo, BlockFactored, BlockDone, Saved}
 use Rattle.blocked_factor.proofs.BlockRows.{row-lt}
@@ -283,9 +284,9 @@ spare-room {n} {b} {c} {len} here =
 pub restored :
     {n b c : ℕ} (m m₁ m₂ work : List Float) (answer : CallResult) (here : BlockAt n b c (length m)) → BlockFactored n b c m answer m₁ →
     ((k : ℕ) → k < blockStart n (c + width n b c) - blockStart n c → getD work k nan ≡ getD m (blockStart n c + k) nan) →
-    Filled (blockStart n c) (blockStart n (c + width n b c) - blockStart n c) (λ k. getD work k nan) m₁ m₂ → m₂ ≡ m
+    Filled nan (blockStart n c) (blockStart n (c + width n b c) - blockStart n c) (λ k. getD work k nan) m₁ m₂ → m₂ ≡ m
 restored {n} {b} {c} m m₁ m₂ work answer here factored saved filled =
-    ext-getD nan m₂ m (filled .kept ∙ factored .kept) (λ p room. at p (decLt p (blockStart n c)) (decLt p (blockStart n c + (blockStart n (c + width n b c) - blockStart n c))))
+    ext-getD nan m₂ m (filled .size ∙ factored .kept) (λ p room. at p (decLt p (blockStart n c)) (decLt p (blockStart n c + (blockStart n (c + width n b c) - blockStart n c))))
   where
     ends : blockStart n c + (blockStart n (c + width n b c) - blockStart n c) ≡ blockStart n (c + width n b c)
     ends = omega (arith, block-end n c (width n b c) (inside-le here))
@@ -332,10 +333,10 @@ module _
   pub done-refused :
       (m₂ work work′ : List Float) (start size : ℕ) → start ≡ blockStart n c → size ≡ blockStart n (c + width n b c) - blockStart n c →
       accepted answer ≡ false → Saved start size m work → ((p : ℕ) → p < size → getD work′ p nan ≡ getD work p nan) →
-      Filled start size (λ k. getD work′ k nan) m₁ m₂ → BlockDone n b c m answer m₂
+      Filled nan start size (λ k. getD work′ k nan) m₁ m₂ → BlockDone n b c m answer m₂
   done-refused m₂ work work′ start size es ez refused saved same filled =
       record {
-        kept = filled .kept ∙ factored .kept;
+        kept = filled .size ∙ factored .kept;
         restored = λ again.
             restored m m₁ m₂ work′ answer here factored
             (λ k few. same k (omega arith) ∙ saved .value k (omega arith) ∙ ap (λ p. getD m (p + k) nan) es) (rw (es, ez) at filled);

@@ -16,7 +16,7 @@ use Rattle.calls.specs.Arithmetic.{minusProducts}
 use Rattle.calls.proofs.Columns.{products-same}
 use Rattle.blocked_factor.specs.BlockColumns.{rowStart, sourceAt, PanelUpdated, Source}
 use Rattle.blocked_factor.specs.BlockSteps.{BlockAt, rowOf}
-use Rattle.blocked_factor.proofs.Products.{products-add}
+use Rattle.kernels.proofs.Products.{minus-add}
 use Rattle.blocked_factor.proofs.BlockRows.{row-lt}
 
 -- a block column of w columns and h rows ends at rowStart w h
@@ -99,7 +99,7 @@ module _ {n b c len : ℕ} (here : BlockAt n b c len) (k : ℕ) (first : blockOf
               (λ i few. row-known s i (omega (arith, e .lower, e .row)) few)
               ∙ ap (minusProducts (λ i. rowOf n b c m r (k + i)) (λ i. rowOf n b c m s (k + i)) b) (done .inside r s e)
               ∙ sym
-              (products-add (rowOf n b c m r) (rowOf n b c m s) k b (getD m (blockStart n c + rowStart (width n b c) r + s) nan));
+              (minus-add (rowOf n b c m r) (rowOf n b c m s) k b (getD m (blockStart n c + rowStart (width n b c) r + s) nan));
           outside = λ p none. step .outside p none ∙ done .outside p none;
         }
 

@@ -1,7 +1,5 @@
 -- Laws that the proofs of this crate share.
-pub mod Products
 pub mod BlockRows
-pub mod Lanes
 pub mod Packing
 pub mod Panels
 pub mod Finishing

@@ -13,42 +13,19 @@ use lib.Ieee.{Float, nan}
 use Rattle.shape.specs.Bounds.{maxOrder}
 use Rattle.calls.specs.Arithmetic.{minusProducts}
 use Rattle.calls.proofs.Columns.{products-same}
-use Rattle.blocked_factor.specs.BlockColumns.{rowStart, rowAt, laneAt, sourceAt, Filled, Packed, InPanel, PanelUpdated, Source}
+use Rattle.kernels.specs.Kernels.{Filled, Replaced}
+use Rattle.kernels.proofs.Parts.{filled-next, filled-same}
+use Rattle.blocked_factor.specs.BlockColumns.{rowStart, rowAt, laneAt, sourceAt, Packed, InPanel, PanelUpdated, Source}
 use Rattle.blocked_factor.proofs.BlockRows.{row-next, row-mono, row-lt, row-apart}
 
 -- ---- a row
 
-pub filled-none : (from : ℕ) (f : ℕ → Float) (m : List Float) → Filled from 0 f m m
-filled-none from f m = record { kept = refl; inside = λ t h. absurd (omega arith); before = λ p h. refl; after = λ p h. refl }
-
-pub filled-next :
-    (from t : ℕ) (f : ℕ → Float) (m m′ : List Float) (v : Float) → Filled from t f m m′ → from + t < length m → v ≡ f t →
-    Filled from (t + 1) f m (set m′ (from + t) v)
-filled-next from t f m m′ v filled room e =
-    record {
-      kept = length-set m′ (from + t) v ∙ filled .kept;
-      inside = λ u h.
-          elim (decLt u t) [
-            | yes p ↦ getD-set-other m′ (from + t) (from + u) v nan (λ q. omega arith) ∙ filled .inside u p
-            | no p ↦
-                let same : u ≡ t = omega arith in
-                rw same (getD-set-same m′ (from + t) v nan (omega (arith, filled .kept)) ∙ e)
-          ];
-      before = λ p h. getD-set-other m′ (from + t) p v nan (λ q. omega arith) ∙ filled .before p h;
-      after = λ p h. getD-set-other m′ (from + t) p v nan (λ q. omega arith) ∙ filled .after p (omega arith);
-    }
-
-pub filled-same :
-    (from count : ℕ) (f f′ : ℕ → Float) (m m′ : List Float) → ((t : ℕ) → t < count → f t ≡ f′ t) → Filled from count f m m′ → Filled from count f′ m m′
-filled-same from count f f′ m m′ same filled =
-    record { kept = filled .kept; inside = λ t h. filled .inside t h ∙ same t h; before = filled .before; after = filled .after }
-
 -- the entries of a row less their products, of which the other factors stand in the source's rows from `first` on
 pub entries-next :
     (m m′ : List Float) (start w first x y count t : ℕ) (v : Float) → x + count ≤ y → start + rowStart w (first + t) + count ≤ y → y + t < length m →
-    Filled y t (λ u. minusProducts (rowAt m x) (rowAt m (start + rowStart w (first + u))) count (getD m (y + u) nan)) m m′ →
+    Filled nan y t (λ u. minusProducts (rowAt m x) (rowAt m (start + rowStart w (first + u))) count (getD m (y + u) nan)) m m′ →
     v ≡ minusProducts (rowAt m′ x) (rowAt m′ (start + rowStart w (first + t))) count (getD m′ (y + t) nan) →
-    Filled y (t + 1) (λ u. minusProducts (rowAt m x) (rowAt m (start + rowStart w (first + u))) count (getD m (y + u) nan)) m (set m′ (y + t) v)
+    Filled nan y (t + 1) (λ u. minusProducts (rowAt m x) (rowAt m (start + rowStart w (first + u))) count (getD m (y + u) nan)) m (set m′ (y + t) v)
 entries-next m m′ start w first x y count t v hx hr room filled e =
     let row : ℕ = start + rowStart w (first + t) in
     let new : v ≡ minusProducts (rowAt m x) (rowAt m row) count (getD m (y + t) nan) =
@@ -57,29 +34,29 @@ entries-next m m′ start w first x y count t v hx hr room filled e =
     (λ k few. filled .before (x + k) (omega arith)) (λ k few. filled .before (row + k) (omega arith))
     ∙ ap (minusProducts (rowAt m x) (rowAt m row) count) (filled .after (y + t) (omega arith))
     in
-    filled-next y t (λ u. minusProducts (rowAt m x) (rowAt m (start + rowStart w (first + u))) count (getD m (y + u) nan)) m m′ v filled room new
+    filled-next nan y (λ u. minusProducts (rowAt m x) (rowAt m (start + rowStart w (first + u))) count (getD m (y + u) nan)) m t m′ v room filled new
 
--- 16 lanes loaded, worked on and stored
+-- the first len of 16 lanes loaded, worked on and stored
 pub filled-lanes :
-    (m m′ panel start lanes : List Float) (x y count : ℕ) → ((t : ℕ) → t < 16 → getD start t nan ≡ getD m (y + t) nan) →
+    (m m′ panel start lanes : List Float) (x y len count : ℕ) → len ≤ 16 → ((t : ℕ) → t < len → getD start t nan ≡ getD m (y + t) nan) →
     ((t : ℕ) → t < 16 → getD lanes t nan ≡ minusProducts (rowAt m x) (laneAt panel t) count (getD start t nan)) →
-    Filled y 16 (λ t. getD lanes t nan) m m′ →
-    Filled y 16 (λ t. minusProducts (rowAt m x) (laneAt panel t) count (getD m (y + t) nan)) m m′
-filled-lanes m m′ panel start lanes x y count loaded worked filled =
-    filled-same y 16 (λ t. getD lanes t nan) (λ t. minusProducts (rowAt m x) (laneAt panel t) count (getD m (y + t) nan)) m m′
-    (λ t h. worked t h ∙ ap (minusProducts (rowAt m x) (laneAt panel t) count) (loaded t h)) filled
+    Replaced nan y len m lanes m′ →
+    Filled nan y len (λ t. minusProducts (rowAt m x) (laneAt panel t) count (getD m (y + t) nan)) m m′
+filled-lanes m m′ panel start lanes x y len count few loaded worked filled =
+    filled-same nan y len (λ t. getD lanes t nan) (λ t. minusProducts (rowAt m x) (laneAt panel t) count (getD m (y + t) nan)) m m′
+    (λ t h. worked t (omega arith) ∙ ap (minusProducts (rowAt m x) (laneAt panel t) count) (loaded t h)) filled
 
 -- by a packed panel
 pub filled-packed :
-    (m m′ panel : List Float) (start w first x y count : ℕ) → Packed panel m start w first count 16 →
-    Filled y 16 (λ t. minusProducts (rowAt m x) (laneAt panel t) count (getD m (y + t) nan)) m m′ →
-    Filled y 16 (λ t. minusProducts (rowAt m x) (rowAt m (start + rowStart w (first + t))) count (getD m (y + t) nan)) m m′
-filled-packed m m′ panel start w first x y count packed filled =
-    filled-same y 16 (λ t. minusProducts (rowAt m x) (laneAt panel t) count (getD m (y + t) nan))
+    (m m′ panel : List Float) (start w first x y len count : ℕ) → len ≤ 16 → Packed panel m start w first count 16 →
+    Filled nan y len (λ t. minusProducts (rowAt m x) (laneAt panel t) count (getD m (y + t) nan)) m m′ →
+    Filled nan y len (λ t. minusProducts (rowAt m x) (rowAt m (start + rowStart w (first + t))) count (getD m (y + t) nan)) m m′
+filled-packed m m′ panel start w first x y len count few packed filled =
+    filled-same nan y len (λ t. minusProducts (rowAt m x) (laneAt panel t) count (getD m (y + t) nan))
     (λ t. minusProducts (rowAt m x) (rowAt m (start + rowStart w (first + t))) count (getD m (y + t) nan)) m m′
     (λ t h.
     products-same (rowAt m x) (rowAt m x) (laneAt panel t) (rowAt m (start + rowStart w (first + t))) count (getD m (y + t) nan)
-    (λ k few. refl) (λ k few. packed .lane t k h few))
+    (λ k below. refl) (λ k below. packed .lane t k (omega arith) below))
     filled
 
 -- ---- the source of a panel's products
@@ -171,9 +148,9 @@ module _
       (panel : List Float) (y l : ℕ) → g ≤ 16 →
       (g ≡ 16 → (16 * count ≤ length panel) × Packed panel m sat sw (sh - h + s0) count 16) →
       y ≡ at + rowStart w r + s0 → l ≡ min g (r + 1 - s0) →
-      ((sat + rowStart sw (sh - h + r) + count ≤ y) × (y + l ≤ length m₁) × (sh - h + s0 + l ≤ maxOrder + 1))
+      ((sat + rowStart sw (sh - h + r) + count ≤ y) × (y + l ≤ length m₁) × (sh - h + s0 + l ≤ maxOrder + 1) × (l ≤ g) × (g ≤ 16))
       × (((t : ℕ) → t < l → sat + rowStart sw (sh - h + s0 + t) + count ≤ y)
-      × (l ≡ 16 → (16 * count ≤ length panel) × Packed panel m₁ sat sw (sh - h + s0) count 16))
+      × (g ≡ 16 → (16 * count ≤ length panel) × Packed panel m₁ sat sw (sh - h + s0) count 16))
   row-ready panel y l narrow packed ey el = (
     omega (arith, source-before source r r low (le-refl r) high, row-room source r low high, before .kept, source .order, source .below),
     (
@@ -184,8 +161,7 @@ module _
           in
           let same : rowStart sw (sh - h + (s0 + t)) ≡ rowStart sw (sh - h + s0 + t) = ap (rowStart sw) row in
           omega arith),
-      (λ full.
-          let whole : g ≡ 16 = omega arith in (
+      (λ whole. (
             packed whole .0,
             record {
               lane = λ t k few p.
@@ -195,13 +171,13 @@ module _
                   in
                   packed whole .1 .lane t k few p ∙ sym (rw row at kept);
             },
-          )),
+      )),
     ),
   )
 
   module _
       (filled :
-      Filled (at + rowStart w r + s0) (min g (r + 1 - s0))
+      Filled nan (at + rowStart w r + s0) (min g (r + 1 - s0))
       (λ t.
       minusProducts (rowAt m₁ (sat + rowStart sw (sh - h + r))) (rowAt m₁ (sat + rowStart sw (sh - h + s0 + t))) count
       (getD m₁ (at + rowStart w r + s0 + t) nan))
@@ -225,7 +201,7 @@ module _
     pub panel-next : PanelUpdated at w (r + 1) s0 g x count m m₂
     panel-next =
         record {
-          kept = filled .kept ∙ before .kept;
+          kept = filled .size ∙ before .kept;
           inside = λ r′ s′ e.
               elim (decLt r′ r) [
                 | yes p ↦

@@ -22,7 +22,7 @@ use Rattle.calls.proofs.Columns.{columns, products-same, entry-diagonal, entry-
 use Rattle.calls.proofs.Entries.{row-products}
 use Rattle.blocked_factor.specs.BlockColumns.{rowStart, rowAt, sourceAt, lessPanel, columnRoot, columnQuotient, columnUnder, PanelUpdated, ColumnFinished}
 use Rattle.blocked_factor.specs.BlockStages.{factorEntry, lessProducts, judgeColumn, Stage}
-use Rattle.blocked_factor.proofs.Products.{products-add}
+use Rattle.kernels.proofs.Products.{minus-add}
 use Rattle.blocked_factor.proofs.BlockRows.{row-apart}
 
 -- ---- verdicts
@@ -46,7 +46,7 @@ module _
       (λ k few. known s k (omega arith) (omega arith) few)
       ∙ ap (minusProducts (λ i. factorEntry n a (c + r) (c + s0 + i)) (λ i. factorEntry n a (c + s) (c + s0 + i)) (s - s0))
       (stage .started r s lower (omega arith) (omega arith) (omega arith) right)
-      ∙ sym (products-add (λ q. factorEntry n a (c + r) q) (λ q. factorEntry n a (c + s) q) (c + s0) (s - s0) (entry a (c + r) (c + s)))
+      ∙ sym (minus-add (λ q. factorEntry n a (c + r) q) (λ q. factorEntry n a (c + s) q) (c + s0) (s - s0) (entry a (c + r) (c + s)))
       ∙ ap (λ k. lessProducts n a k (c + r) (c + s)) total
     where
       total : c + s0 + (s - s0) ≡ c + s
@@ -144,7 +144,7 @@ stage-updated n a c w h s0 g m m′ order wide tall stage update =
           (λ k few. known s k (omega arith) low few)
           ∙ ap (minusProducts (λ i. factorEntry n a (c + r) (c + i)) (λ i. factorEntry n a (c + s) (c + i)) s0)
           (stage .entered r s lower high narrow low)
-          ∙ sym (products-add (λ q. factorEntry n a (c + r) q) (λ q. factorEntry n a (c + s) q) c s0 (entry a (c + r) (c + s)));
+          ∙ sym (minus-add (λ q. factorEntry n a (c + r) q) (λ q. factorEntry n a (c + s) q) c s0 (entry a (c + r) (c + s)));
       entered = λ r s lower high narrow low.
           other r s lower narrow (λ z. omega arith) ∙ stage .entered r s lower high narrow (omega arith);
     }

@@ -29,13 +29,6 @@ rowAt m x = λ k. getD m (x + k) nan
 abbrev pub laneAt : List Float → ℕ → ℕ → Float
 laneAt panel t = λ k. getD panel (16 * k + t) nan
 
--- count places from `from` on hold f 0, f 1, .., and the others are as they were
-pub record Filled (from count : ℕ) (f : ℕ → Float) (m m′ : List Float) : Type 0 where
-  pub kept : length m′ ≡ length m
-  pub inside : (t : ℕ) → t < count → getD m′ (from + t) nan ≡ f t
-  pub before : (p : ℕ) → p < from → getD m′ p nan ≡ getD m p nan
-  pub after : (p : ℕ) → from + count ≤ p → getD m′ p nan ≡ getD m p nan
-
 -- lane t of a panel holds f 0, f 1, .., and the other lanes are as they were
 pub record LanePacked (t count : ℕ) (f : ℕ → Float) (panel panel′ : List Float) : Type 0 where
   pub kept : length panel′ ≡ length panel

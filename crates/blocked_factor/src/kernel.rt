@@ -2,9 +2,15 @@
 ghost use mathlib.Core.Path.{_≡_};
 ghost use Prim.Native.Nat.{ℕ, _+_, _*_, _≤_, _<_};
 ghost use lib.ListN.{length, getD};
-ghost use lib.Ieee.{nan, binary64, sub, mul};
+ghost use lib.Ieee.{nan};
 ghost use Rattle.calls.specs.Arithmetic.{minusProducts};
-ghost use Rattle.blocked_factor.specs.BlockColumns.{rowAt, laneAt, Filled, LanePacked};
+ghost use Rattle.kernels.specs.Kernels.{Filled};
+ghost use Rattle.blocked_factor.specs.BlockColumns.{rowAt, laneAt, LanePacked};
+use kernels::load16;
+use kernels::load_part16;
+use kernels::step16;
+use kernels::store16;
+use kernels::store_part16;
 
 // t less the products of the count values from place x on with those from place y on.
 pub fn minus_products(m: &[f64], x: usize, y: usize, count: usize, t: f64) -> f64
@@ -20,21 +26,6 @@ pub fn minus_products(m: &[f64], x: usize, y: usize, count: usize, t: f64) -> f6
     s
 }
 
-// One product for each lane: x with the values from place `at` of the panel on.
-fn step16(start: [f64; 16], x: f64, panel: &[f64], at: usize) -> [f64; 16]
-    requires { ⌜ at + 16 ≤ length (now panel) ⌝ }
-    ensures { λ r.
-        ⌜ ((t : ℕ) → t < 16 → getD r t nan ≡ sub binary64 (getD start t nan) (mul binary64 x (getD (now (panel .entry)) (at + t) nan))) ⌝ }
-{
-    let mut lanes = start;
-    let mut t = 0;
-    while t < 16 {
-        lanes[t] = lanes[t] - x * panel[at + t];
-        t += 1;
-    }
-    lanes
-}
-
 // Lane t less the products of the count values from place x on with column t of the panel.
 fn kernel16(start: [f64; 16], m: &[f64], x: usize, panel: &[f64], count: usize) -> [f64; 16]
     requires { ⌜ (x + count ≤ length (now m)) × (16 * count ≤ length (now panel)) ⌝ }
@@ -45,48 +36,37 @@ fn kernel16(start: [f64; 16], m: &[f64], x: usize, panel: &[f64], count: usize) 
     let mut lanes = start;
     let mut k = 0;
     while k < count {
-        let next = step16(lanes, m[x + k], panel, 16 * k);
+        let next = step16(lanes, panel, 16 * k, m[x + k]);
         lanes = next;
         k += 1;
     }
     lanes
 }
 
-fn load16(m: &[f64], at: usize) -> [f64; 16]
-    requires { ⌜ at + 16 ≤ length (now m) ⌝ }
-    ensures { λ r. ⌜ ((t : ℕ) → t < 16 → getD r t nan ≡ getD (now (m .entry)) (at + t) nan) ⌝ }
-{
-    let mut lanes = [0.0; 16];
-    let mut t = 0;
-    while t < 16 {
-        lanes[t] = m[at + t];
-        t += 1;
-    }
-    lanes
-}
-
-fn store16(m: &mut [f64], at: usize, lanes: [f64; 16])
-    requires { ⌜ at + 16 ≤ length (now m) ⌝ }
-    ensures { λ r. ⌜ Filled at 16 (λ t. getD lanes t nan) (now (m .entry)) (now (m .exit)) ⌝ }
-{
-    let mut t = 0;
-    while t < 16 {
-        m[at + t] = lanes[t];
-        t += 1;
-    }
-}
-
 // The 16 entries from place y on, each less the products of the count values from place x on with its column of the panel.
 pub fn update16(m: &mut [f64], panel: &[f64], x: usize, y: usize, count: usize)
     requires { ⌜ (x + count ≤ length (now m)) × (y + 16 ≤ length (now m)) × (16 * count ≤ length (now panel)) ⌝ }
     ensures { λ r.
-        ⌜ Filled y 16
+        ⌜ Filled nan y 16
         (λ t. minusProducts (rowAt (now (m .entry)) x) (laneAt (now (panel .entry)) t) count (getD (now (m .entry)) (y + t) nan))
         (now (m .entry)) (now (m .exit)) ⌝ }
 {
     let start = load16(m, y);
     let lanes = kernel16(start, m, x, panel, count);
     store16(m, y, lanes);
+}
+
+// The same for the first len of them.
+pub fn update_part16(m: &mut [f64], panel: &[f64], x: usize, y: usize, len: usize, count: usize)
+    requires { ⌜ (x + count ≤ length (now m)) × (y + len ≤ length (now m)) × (len ≤ 16) × (16 * count ≤ length (now panel)) ⌝ }
+    ensures { λ r.
+        ⌜ Filled nan y len
+        (λ t. minusProducts (rowAt (now (m .entry)) x) (laneAt (now (panel .entry)) t) count (getD (now (m .entry)) (y + t) nan))
+        (now (m .entry)) (now (m .exit)) ⌝ }
+{
+    let start = load_part16(m, y, len);
+    let lanes = kernel16(start, m, x, panel, count);
+    store_part16(m, y, lanes, len);
 }
 
 // The count values from place `from` on become lane t of a panel.

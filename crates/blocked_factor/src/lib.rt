@@ -7,7 +7,8 @@ ghost use Rattle.binary64.specs.Kinds.{zero64};
 ghost use Rattle.shape.specs.Bounds.{maxOrder};
 ghost use Rattle.shape.specs.Places.{triangle, blockStart, width, blockWork};
 ghost use Rattle.calls.specs.Calls.{DoneAs, factorize};
-ghost use Rattle.blocked_factor.specs.BlockColumns.{Filled, rowStart, lessPanel, columnQuotient, ColumnFinished, UnderFinished, PanelUpdated};
+ghost use Rattle.kernels.specs.Kernels.{Filled};
+ghost use Rattle.blocked_factor.specs.BlockColumns.{rowStart, lessPanel, columnQuotient, ColumnFinished, UnderFinished, PanelUpdated};
 ghost use Rattle.blocked_factor.specs.BlockStages.{PanelFinished, ColumnsFactored};
 ghost use Rattle.blocked_factor.specs.BlockSteps.{BlockAt, SpareRoom, BlockFactored, BlockDone, Saved, Sized, BlocksDone, rowOf};
 
@@ -206,7 +207,7 @@ fn save(m: &[f64], work: &mut [f64], start: usize, size: usize)
 
 fn restore(m: &mut [f64], work: &[f64], start: usize, size: usize)
     requires { ⌜ (start + size ≤ length (now m)) × (size ≤ length (now work)) ⌝ }
-    ensures { λ r. ⌜ Filled start size (λ k. getD (now (work .entry)) k nan) (now (m .entry)) (now (m .exit)) ⌝ }
+    ensures { λ r. ⌜ Filled nan start size (λ k. getD (now (work .entry)) k nan) (now (m .entry)) (now (m .exit)) ⌝ }
 {
     let mut k = 0;
     while k < size {

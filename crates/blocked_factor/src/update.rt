@@ -6,14 +6,13 @@ ghost use lib.ListN.{length, getD};
 ghost use lib.Ieee.{nan};
 ghost use Rattle.shape.specs.Bounds.{maxOrder};
 ghost use Rattle.calls.specs.Arithmetic.{minusProducts};
-ghost use Rattle.blocked_factor.specs.BlockColumns.{rowStart, rowAt, sourceAt, Filled, Packed, PanelUpdated, Source};
+ghost use Rattle.kernels.specs.Kernels.{Filled};
+ghost use Rattle.blocked_factor.specs.BlockColumns.{rowStart, rowAt, sourceAt, Packed, PanelUpdated, Source};
 use crate::kernel::minus_products;
 use crate::kernel::pack_lane;
 use crate::kernel::update16;
+use crate::kernel::update_part16;
 use shape::Shape;
-
-// The columns of a panel that the kernel works on at once.
-pub const LANES: usize = 16;
 
 // Where a block column starts in a memory, its columns and its rows.
 pub struct BlockColumn {
@@ -43,7 +42,7 @@ fn update_entries(
     requires { ⌜ (x + count ≤ y) × (y + len ≤ length (now m)) × (first + len ≤ maxOrder + 1) ⌝ }
     requires { ⌜ ((t : ℕ) → t < len → source .start + rowStart (source .width) (first + t) + count ≤ y) ⌝ }
     ensures { λ r.
-        ⌜ Filled y len
+        ⌜ Filled nan y len
         (λ t.
         minusProducts (rowAt (now (m .entry)) x) (rowAt (now (m .entry)) (source .start + rowStart (source .width) (first + t))) count
         (getD (now (m .entry)) (y + t) nan))
@@ -76,22 +75,23 @@ fn pack(panel: &mut [f64], m: &[f64], source: BlockColumn, first: usize, count: 
     }
 }
 
-// As `update_entries`; where the row has all of a panel's 16 columns, by the packed panel.
+// As `update_entries`; by the packed panel where the panel has 16 columns, of which the row has the first len.
 fn update_row(
     m: &mut [f64],
     panel: &[f64],
     source: BlockColumn,
     first: usize,
+    g: usize,
     x: usize,
     y: usize,
     len: usize,
     count: usize,
 )
-    requires { ⌜ (x + count ≤ y) × (y + len ≤ length (now m)) × (first + len ≤ maxOrder + 1) ⌝ }
+    requires { ⌜ (x + count ≤ y) × (y + len ≤ length (now m)) × (first + len ≤ maxOrder + 1) × (len ≤ g) × (g ≤ 16) ⌝ }
     requires { ⌜ ((t : ℕ) → t < len → source .start + rowStart (source .width) (first + t) + count ≤ y) ⌝ }
-    requires { ⌜ (len ≡ 16 → (16 * count ≤ length (now panel)) × Packed (now panel) (now m) (source .start) (source .width) first count 16) ⌝ }
+    requires { ⌜ (g ≡ 16 → (16 * count ≤ length (now panel)) × Packed (now panel) (now m) (source .start) (source .width) first count 16) ⌝ }
     ensures { λ r.
-        ⌜ Filled y len
+        ⌜ Filled nan y len
         (λ t.
         minusProducts (rowAt (now (m .entry)) x) (rowAt (now (m .entry)) (source .start + rowStart (source .width) (first + t))) count
         (getD (now (m .entry)) (y + t) nan))
@@ -99,6 +99,8 @@ fn update_row(
 {
     if len == 16 {
         update16(m, panel, x, y, count);
+    } else if g == 16 {
+        update_part16(m, panel, x, y, len, count);
     } else {
         update_entries(m, source, first, x, y, len, count);
     }
@@ -124,13 +126,16 @@ fn update_rows(
         (sourceAt (now (m .entry)) (source .start) (source .width) (source .rows - target .rows)) count (now (m .entry)) (now (m .exit)) ⌝ }
 {
     let above = source.rows - target.rows;
+    let first = above + s0;
+    let mut x = source.start + Shape::place_in_block(source.width, first, 0);
+    let mut y = target.start + Shape::place_in_block(target.width, s0, 0) + s0;
     let mut r = s0;
     while r < target.rows {
-        let x = source.start + Shape::place_in_block(source.width, above + r, 0);
-        let y = target.start + Shape::place_in_block(target.width, r, 0) + s0;
         let len = least(g, r + 1 - s0);
-        update_row(m, panel, source, above + s0, x, y, len, count);
+        update_row(m, panel, source, first, g, x, y, len, count);
         r += 1;
+        x += least(above + r, source.width);
+        y += least(r, target.width);
     }
 }
 

@@ -80,3 +80,8 @@ module _ {A : Type 0} (d : A) where
               ];
           after = λ i h. getD-set-other zs (a + k) i x d (λ g. omega arith) ∙ so .after i (omega arith);
         }
+
+  pub filled-same :
+      (a k : ℕ) (f f′ : ℕ → A) (xs zs : List A) → ((r : ℕ) → r < k → f r ≡ f′ r) → Filled d a k f xs zs → Filled d a k f′ xs zs
+  filled-same a k f f′ xs zs same so =
+      record { size = so .size; before = so .before; inside = λ r h. so .inside r h ∙ same r h; after = so .after }

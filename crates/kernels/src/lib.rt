@@ -167,6 +167,31 @@ pub fn store16(v: &mut [f64], at: usize, values: [f64; 16])
     }
 }
 
+// The first count of sixteen values, from position at on; the others are zeros.
+pub fn load_part16(v: &[f64], at: usize, count: usize) -> [f64; 16]
+    requires { ⌜ (at + count ≤ length (now v)) × (count ≤ 16) ⌝ }
+    ensures { λ r. ⌜ ((s : ℕ) → s < count → getD r s nan ≡ getD (now (v .entry)) (at + s) nan) ⌝ }
+{
+    let mut values = [0.0; 16];
+    let mut s = 0;
+    while s < count {
+        values[s] = v[at + s];
+        s += 1;
+    }
+    values
+}
+
+pub fn store_part16(v: &mut [f64], at: usize, values: [f64; 16], count: usize)
+    requires { ⌜ (at + count ≤ length (now v)) × (count ≤ 16) ⌝ }
+    ensures { λ _. ⌜ Replaced nan at count (now (v .entry)) values (now (v .exit)) ⌝ }
+{
+    let mut s = 0;
+    while s < count {
+        v[at + s] = values[s];
+        s += 1;
+    }
+}
+
 pub fn copy(from: &[f64], to: &mut [f64])
     requires { ⌜ length (now from) ≡ length (now to) ⌝ }
     ensures { λ _. ⌜ now (to .exit) ≡ now (from .entry) ⌝ }

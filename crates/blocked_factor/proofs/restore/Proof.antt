@@ -4,19 +4,19 @@ use native.Mathlib.Omega.{arith}
 use mathlib.Core.Path.{_≡_, refl}
 use lib.ListN.{getD}
 use lib.Ieee.{nan}
-use Rattle.blocked_factor.specs.BlockColumns.{Filled}
-use Rattle.blocked_factor.proofs.Panels.{filled-none, filled-next}
+use Rattle.kernels.specs.Kernels.{Filled}
+use Rattle.kernels.proofs.Parts.{filled-none, filled-next}
 use Rattle.blocked_factor.proofs.restore.Statement.{statement}
 use Rattle.blocked_factor.proofs.restore.Tie as tie
 
 abbrev Inv-loop : tie.InvT-loop
-Inv-loop m₀ work start size k₀ m k = (k ≤ size) × Filled start k (λ u. getD work u nan) m₀ m
+Inv-loop m₀ work start size k₀ m k = (k ≤ size) × Filled nan start k (λ u. getD work u nan) m₀ m
 
 abbrev μ-loop : tie.MeasureT-loop
 μ-loop m₀ work start size k₀ m k = size - k
 
 loop-holds : tie.Need-loop-holds Inv-loop μ-loop
-loop-holds c = (omega arith, filled-none _ _ _)
+loop-holds c = (omega arith, filled-none nan _ _ _)
 
 mul-m : tie.Need-mul-m Inv-loop μ-loop
 mul-m c = omega arith
@@ -28,10 +28,10 @@ add-m : tie.Need-add-m Inv-loop μ-loop
 add-m c = omega arith
 
 mul-m-2 : tie.Need-mul-m-2 Inv-loop μ-loop
-mul-m-2 c = omega (arith, c .before .before .loop .inv .1 .kept)
+mul-m-2 c = omega (arith, c .before .before .loop .inv .1 .size)
 
 slice-write-m : tie.Need-slice-write-m Inv-loop μ-loop
-slice-write-m c = omega (arith, c .before .before .loop .inv .1 .kept)
+slice-write-m c = omega (arith, c .before .before .loop .inv .1 .size)
 
 add-k : tie.Need-add-k Inv-loop μ-loop
 add-k c = omega arith
@@ -43,10 +43,10 @@ loop-again : tie.Need-loop-again Inv-loop μ-loop
 loop-again c =
     let a = c .before .before .before .args in
     let l = c .before .before .loop in
-    (omega arith, filled-next (a .start) (l .k) (λ (u : ℕ). getD (a .work .now) u nan) (a .m .now) (l .m) _ (l .inv .1) (omega arith) refl)
+    (omega arith, filled-next nan (a .start) (λ (u : ℕ). getD (a .work .now) u nan) (a .m .now) (l .k) (l .m) _ (omega arith) (l .inv .1) refl)
 
 same-length : tie.Need-same-length Inv-loop μ-loop
-same-length c = c .before .loop .inv .1 .kept
+same-length c = c .before .loop .inv .1 .size
 
 returns : tie.Need-returns Inv-loop μ-loop
 returns c =

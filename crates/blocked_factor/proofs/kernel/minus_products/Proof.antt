@@ -1,7 +1,7 @@
 -- `blocked_factor::kernel::minus_products` meets its contract. Assumes nothing.
 use mathlib.Core.Path.{sym, _∙_}
 use lib.Ieee.{Float, binary64, sub, mul}
-use Rattle.blocked_factor.proofs.Products.{products-next}
+use Rattle.kernels.proofs.Products.{minus-next}
 use Prim.Native.Nat.{_-_, _≤_}
 use native.Mathlib.Omega.{arith}
 use mathlib.Core.Path.{_≡_, refl, ap}
@@ -50,7 +50,7 @@ loop-again c =
     let x = c .before .before .before .before .args .x in
     let y = c .before .before .before .before .args .y in
     let k = c .before .before .before .loop .k in
-    (omega arith, ap (λ (v : Float). sub binary64 v (mul binary64 (rowAt m x k) (rowAt m y k))) (c .before .before .before .loop .inv .1) ∙ sym (products-next (rowAt m x) (rowAt m y) k (c .before .before .before .before .args .t)))
+    (omega arith, ap (λ (v : Float). sub binary64 v (mul binary64 (rowAt m x k) (rowAt m y k))) (c .before .before .before .loop .inv .1) ∙ sym (minus-next (rowAt m x) (rowAt m y) k (c .before .before .before .before .args .t)))
 
 returns : tie.Need-returns Inv-loop μ-loop
 returns c =

@@ -1,5 +1,6 @@
 -- `blocked_factor::kernel::update16` meets its contract. Assumes nothing.
 use Rattle.blocked_factor.proofs.Panels.{filled-lanes}
+use native.Mathlib.Omega.{arith}
 use borrow.Author.Needs.{needs}
 use Rattle.blocked_factor.proofs.kernel.update16.Statement.{statement}
 use Rattle.blocked_factor.proofs.kernel.update16.Tie as tie
@@ -19,7 +20,7 @@ same-length c = search needs
 returns : tie.Need-returns
 returns c =
     let a = c .before .before .before .before .before .before .before .before .before .before .args in
-    filled-lanes (a .m .now) _ (a .panel .now) (c .before .before .before .before .before .before .load16 .result) (c .before .before .before .before .kernel16 .result) (a .x) (a .y) (a .count) (c .before .before .before .before .before .before .load16 .ensures) (c .before .before .before .before .kernel16 .ensures) (c .before .before .store16 .ensures)
+    filled-lanes (a .m .now) _ (a .panel .now) (c .before .before .before .before .before .before .load16 .result) (c .before .before .before .before .kernel16 .result) (a .x) (a .y) 16 (a .count) (omega arith) (c .before .before .before .before .before .before .load16 .ensures) (c .before .before .before .before .kernel16 .ensures) (c .before .before .store16 .ensures)
 
 pub update16-spec : {M : Type 1} → statement M
 update16-spec =

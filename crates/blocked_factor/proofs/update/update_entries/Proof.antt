@@ -5,19 +5,21 @@ use mathlib.Core.Path.{_≡_}
 use lib.ListN.{getD}
 use lib.Ieee.{nan}
 use Rattle.calls.specs.Arithmetic.{minusProducts}
-use Rattle.blocked_factor.specs.BlockColumns.{rowStart, rowAt, Filled}
-use Rattle.blocked_factor.proofs.Panels.{filled-none, entries-next}
+use Rattle.blocked_factor.specs.BlockColumns.{rowStart, rowAt}
+use Rattle.blocked_factor.proofs.Panels.{entries-next}
+use Rattle.kernels.specs.Kernels.{Filled}
+use Rattle.kernels.proofs.Parts.{filled-none}
 use Rattle.blocked_factor.proofs.update.update_entries.Statement.{statement}
 use Rattle.blocked_factor.proofs.update.update_entries.Tie as tie
 
 abbrev Inv-loop : tie.InvT-loop
-Inv-loop m₀ first x y len count start width t₀ m t = (t ≤ len) × Filled y t (λ u. minusProducts (rowAt m₀ x) (rowAt m₀ (start + rowStart width (first + u))) count (getD m₀ (y + u) nan)) m₀ m
+Inv-loop m₀ first x y len count start width t₀ m t = (t ≤ len) × Filled nan y t (λ u. minusProducts (rowAt m₀ x) (rowAt m₀ (start + rowStart width (first + u))) count (getD m₀ (y + u) nan)) m₀ m
 
 abbrev μ-loop : tie.MeasureT-loop
 μ-loop m₀ first x y len count start width t₀ m t = len - t
 
 loop-holds : tie.Need-loop-holds Inv-loop μ-loop
-loop-holds c = (omega arith, filled-none _ _ _)
+loop-holds c = (omega arith, filled-none nan _ _ _)
 
 add-place-in-block : tie.Need-add-place-in-block Inv-loop μ-loop
 add-place-in-block c = omega arith
@@ -32,22 +34,22 @@ add-minus-products : tie.Need-add-minus-products Inv-loop μ-loop
 add-minus-products c = omega arith
 
 mul-minus-products : tie.Need-mul-minus-products Inv-loop μ-loop
-mul-minus-products c = omega (arith, c .before .before .before .loop .inv .1 .kept)
+mul-minus-products c = omega (arith, c .before .before .before .loop .inv .1 .size)
 
 slice-reshared-read-minus-products : tie.Need-slice-reshared-read-minus-products Inv-loop μ-loop
-slice-reshared-read-minus-products c = omega (arith, c .before .before .before .loop .inv .1 .kept)
+slice-reshared-read-minus-products c = omega (arith, c .before .before .before .loop .inv .1 .size)
 
 minus-products-requires : tie.Need-minus-products-requires Inv-loop μ-loop
-minus-products-requires c κs = omega (arith, c .before .place-in-block .ensures, c .before .before .before .before .before .pre .1 (c .before .before .before .loop .t) (c .before .before .loop-test .taken), c .before .before .before .loop .inv .1 .kept)
+minus-products-requires c κs = omega (arith, c .before .place-in-block .ensures, c .before .before .before .before .before .pre .1 (c .before .before .before .loop .t) (c .before .before .loop-test .taken), c .before .before .before .loop .inv .1 .size)
 
 add-m : tie.Need-add-m Inv-loop μ-loop
 add-m c = omega arith
 
 mul-m : tie.Need-mul-m Inv-loop μ-loop
-mul-m c = omega (arith, c .before .before .before .before .loop .inv .1 .kept)
+mul-m c = omega (arith, c .before .before .before .before .loop .inv .1 .size)
 
 slice-write-m : tie.Need-slice-write-m Inv-loop μ-loop
-slice-write-m c = omega (arith, c .before .before .before .before .loop .inv .1 .kept)
+slice-write-m c = omega (arith, c .before .before .before .before .loop .inv .1 .size)
 
 add-t : tie.Need-add-t Inv-loop μ-loop
 add-t c = omega arith
@@ -67,7 +69,7 @@ loop-again c =
     )
 
 same-length : tie.Need-same-length Inv-loop μ-loop
-same-length c = c .before .loop .inv .1 .kept
+same-length c = c .before .loop .inv .1 .size
 
 returns : tie.Need-returns Inv-loop μ-loop
 returns c =
