@@ -1,8 +1,11 @@
 -- The rows of a block column, by where they start: they lie end to end. They belong to crate shape. Assumes nothing.
-use Prim.Native.Nat.{ℕ, _+_, _≤_, _<_}
+use Prim.Native.Nat.{ℕ, zero, suc, _+_, _≤_, _<_}
+use native.Mathlib.Numerals.{add-one}
 use native.Mathlib.Omega.{arith}
 use mathlib.Core.Path.{_≡_}
-use Rattle.shape.proofs.Parts.{starts, starts-mono, starts-lt, starts-apart}
+use Rattle.shape.specs.Places.{triangle}
+use Rattle.shape.proofs.Columns.{triangle-next}
+use Rattle.shape.proofs.Parts.{starts, starts-zero, starts-mono, starts-lt, starts-apart}
 use Rattle.shape.proofs.Rows.{rowLength, place-in-block-row, place-in-block-next-row}
 use Rattle.blocked_factor.specs.BlockColumns.{rowStart}
 
@@ -24,3 +27,7 @@ module _ (w : ℕ) where
 
   pub row-apart : (r r′ s s′ : ℕ) → s < rowLength w r → s′ < rowLength w r′ → rowStart w r + s ≡ rowStart w r′ + s′ → (r ≡ r′) × (s ≡ s′)
   row-apart r r′ s s′ h h′ e = starts-apart (rowLength w) r r′ s s′ h h′ (omega (arith, row-starts r, row-starts r′))
+
+  pub row-le-triangle : (r : ℕ) → rowStart w r ≤ triangle r
+  row-le-triangle zero = omega (arith, row-starts 0, starts-zero (rowLength w))
+  row-le-triangle (suc r) = rw (← add-one r) (omega (arith, row-next r, triangle-next r, row-le-triangle r))

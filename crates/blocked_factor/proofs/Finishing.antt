@@ -1,109 +1,181 @@
--- Finishing a column of a block column row by row. Assumes nothing.
-use Prim.Native.Nat.{ℕ, suc, _+_, _-_, _≤_, _<_}
+-- Finishing a column of a block column: one row, eight rows, and rows after others. Assumes nothing.
+use Prim.Native.Nat.{ℕ, _+_, _-_, _≤_, _<_}
 use native.Mathlib.Omega.{arith}
 use native.Mathlib.Decide.{decLt}
 use mathlib.Core.Path.{_≡_, refl, sym, ap, ap₂, _∙_}
 use mathlib.Core.Logic.{_≢_}
-use mathlib.Core.Bool.{Bool, true, false, _&&_}
-use mathlib.Core.List.{List, [], _∷_, _++_}
+use mathlib.Core.Bool.{Bool, true, _&&_, and-true}
+use mathlib.Core.List.{List, _++_}
 use lib.ListN.{length, getD, set, length-set}
 use lib.Seq.{getD-set-same, getD-set-other}
 use lib.Ieee.{Float, nan, binary64, div}
 use Rattle.binary64.specs.Kinds.{finite}
 use Rattle.calls.specs.Sequences.{grow, tabulate, all}
 use Rattle.calls.specs.Arithmetic.{minusProducts}
+use Rattle.calls.proofs.Sequences.{tabulate-of, tabulate-same, tabulate-append, all-append}
 use Rattle.calls.proofs.Columns.{products-same}
-use Rattle.blocked_factor.specs.BlockColumns.{rowStart, rowAt, lessPanel, columnQuotient, UnderFinished}
-use Rattle.blocked_factor.proofs.BlockRows.{row-next, row-lt, row-apart}
+use Rattle.kernels.specs.Kernels.{Scattered}
+use Rattle.blocked_factor.specs.BlockColumns.{rowStart, rowAt, lessPanel, columnQuotient, RowsFinished, UnderFinished}
+use Rattle.blocked_factor.proofs.BlockRows.{row-next, row-mono, row-lt, row-apart}
 
--- ---- all of a table; they belong to crate calls
+-- ---- what is judged
 
-all-snoc : {A : Type 0} (test : A → Bool) (xs : List A) (x : A) → all test (xs ++ (x ∷ [])) ≡ all test xs && test x
-unfolding all
-all-snoc test [] x = last (test x)
-  where
-    last : (b : Bool) → b && true ≡ true && b
-    last true = refl
-    last false = refl
-all-snoc test (y ∷ ys) x = ap (λ b. test y && b) (all-snoc test ys x) ∙ assoc (test y) (all test ys) (test x)
-  where
-    assoc : (a b c : Bool) → a && (b && c) ≡ (a && b) && c
-    assoc true b c = refl
-    assoc false b c = refl
+-- the rows of column s from `from` on, `count` of them
+abbrev rowsOf : ℕ → ℕ → ℕ → List Float → Float → ℕ → ℕ → List Float
+rowsOf w s0 s m d from count = tabulate count (λ r. columnQuotient w s0 s m d (from + r))
 
-pub all-tabulate-none : {A : Type 0} (test : A → Bool) (f : ℕ → A) → all test (tabulate 0 f) ≡ true
+all-none : (f : ℕ → Float) (count : ℕ) → count ≡ 0 → true ≡ all finite (tabulate count f)
 unfolding all tabulate grow
-all-tabulate-none test f = refl
+all-none f count e = rw e
 
-pub all-tabulate-next : {A : Type 0} (test : A → Bool) (f : ℕ → A) (k : ℕ) → all test (tabulate (suc k) f) ≡ all test (tabulate k f) && test (f k)
-unfolding tabulate grow
-all-tabulate-next test f k = all-snoc test (tabulate k f) (f k)
+all-one : (f : ℕ → Float) (count : ℕ) → count ≡ 1 → finite (f 0) ≡ all finite (tabulate count f)
+unfolding all tabulate grow
+all-one f count e = rw e (sym (and-true (finite (f 0))))
 
--- ---- the rows under the diagonal
+-- ---- no rows, and one
 
-pub under-none : (w s0 s : ℕ) (diagonal : Float) (m : List Float) → UnderFinished w (s + 1) s0 s diagonal m true m
-under-none w s0 s diagonal m =
-    let none : s + 1 - s - 1 ≡ 0 = omega arith in
-    record {
-      kept = refl;
-      judged = rw none (sym (all-tabulate-none finite (λ r. columnQuotient w s0 s m diagonal (s + 1 + r))));
-      under = λ r low high. absurd (omega arith);
-      outside = λ p none. refl;
-    }
+module _ (w s0 s : ℕ) (d : Float) (m : List Float) where
+  pub rows-none : (from : ℕ) → RowsFinished w from from s0 s d m true m
+  rows-none from =
+      record {
+        kept = refl;
+        judged = all-none (λ r. columnQuotient w s0 s m d (from + r)) (from - from) (omega arith);
+        rows = λ r low high. absurd (omega arith);
+        outside = λ p h. refl;
+      }
+
+  module _ (r : ℕ) (left : s0 ≤ s) (narrow : s < w) (low : s < r) (room : rowStart w (r + 1) ≤ length m) where
+    pub rows-one :
+        (q : Float) →
+        q
+        ≡ div binary64 (minusProducts (rowAt m (rowStart w r + s0)) (rowAt m (rowStart w s + s0)) (s - s0) (getD m (rowStart w r + s0 + (s - s0)) nan))
+        d →
+        RowsFinished w r (r + 1) s0 s d m (finite q) (set m (rowStart w r + s0 + (s - s0)) q)
+    rows-one q e =
+        let place : rowStart w r + s0 + (s - s0) ≡ rowStart w r + s = omega arith in
+        let value : q ≡ columnQuotient w s0 s m d r = (rw place at e) in
+        let first : r ≡ r + 0 = omega arith in
+        rw place
+        (record {
+          kept = length-set m (rowStart w r + s) q;
+          judged =
+              ap finite (value ∙ ap (columnQuotient w s0 s m d) first)
+              ∙ all-one (λ i. columnQuotient w s0 s m d (r + i)) (r + 1 - r) (omega arith);
+          rows = λ r′ from to.
+              let same : r′ ≡ r = omega arith in
+              rw same (getD-set-same m (rowStart w r + s) q nan (omega (arith, row-next w r)) ∙ value);
+          outside = λ p none. getD-set-other m (rowStart w r + s) p q nan (none r (omega arith) (omega arith));
+        })
+
+-- ---- eight rows
 
 module _
-    (w r s0 s : ℕ) (diagonal : Float) (m m₁ : List Float) (ok : Bool) (before : UnderFinished w r s0 s diagonal m ok m₁) (low : s < r) (left : s0 ≤ s)
-    (narrow : s < w) (room : rowStart w (r + 1) ≤ length m) where
-  -- entries of other columns, and of rows from r on, are as they were
+    (w r s0 s : ℕ) (at : ℕ → ℕ) (left : s0 ≤ s) (narrow : s < w) (below : w ≤ r)
+    (places : (k : ℕ) → k < 8 → at k ≡ rowStart w (r + k) + s0) where
+  pub eight-inside : (k : ℕ) → k < 8 → at k + (s - s0) < rowStart w (r + 8)
+  eight-inside k few = omega (arith, places k few, row-lt w (r + k) (r + 8) s (omega arith) (omega arith))
+
+  pub eight-apart : (k k′ : ℕ) → k < 8 → k′ < 8 → at k ≡ at k′ → k ≡ k′
+  eight-apart k k′ few few′ e =
+      let same : r + k ≡ r + k′ =
+      row-apart w (r + k) (r + k′) s0 s0 (omega arith) (omega arith) (omega (arith, places k few, places k′ few′)) .0
+      in
+      omega arith
+
+  pub rows-eight :
+      (d : Float) (m m′ quotients : List Float) → length quotients ≡ 8 →
+      ((k : ℕ) → k < 8 →
+      getD quotients k nan
+      ≡ div binary64 (minusProducts (rowAt m (at k)) (rowAt m (rowStart w s + s0)) (s - s0) (getD m (at k + (s - s0)) nan)) d) →
+      Scattered 8 (λ k. at k + (s - s0)) (λ k. getD quotients k nan) m m′ → RowsFinished w r (r + 8) s0 s d m (all finite quotients) m′
+  rows-eight d m m′ quotients size values scattered =
+      let eight : 8 ≡ r + 8 - r = omega arith in
+      record {
+        kept = scattered .size;
+        judged =
+            ap (all finite) (sym (tabulate-of (λ k. columnQuotient w s0 s m d (r + k)) 8 quotients nan size value))
+            ∙ ap (λ n. all finite (rowsOf w s0 s m d r n)) eight;
+        rows = λ r′ low high.
+            let row : r + (r′ - r) ≡ r′ = omega arith in
+            let few : r′ - r < 8 = omega arith in
+            let place : at (r′ - r) + (s - s0) ≡ rowStart w r′ + s = omega (arith, places (r′ - r) few, ap (rowStart w) row) in
+            (rw place at (scattered .inside (r′ - r) few)) ∙ value (r′ - r) few ∙ ap (columnQuotient w s0 s m d) row;
+        outside = λ p none.
+            scattered .outside p (λ k few e. none (r + k) (omega arith) (omega arith) (omega (arith, places k few)));
+      }
+    where
+      value : (k : ℕ) → k < 8 → getD quotients k nan ≡ columnQuotient w s0 s m d (r + k)
+      value k few =
+          let place : at k + (s - s0) ≡ rowStart w (r + k) + s = omega (arith, places k few) in
+          values k few
+          ∙ ap₂ (λ x y. div binary64 (minusProducts (rowAt m x) (rowAt m (rowStart w s + s0)) (s - s0) (getD m y nan)) d) (places k few) place
+
+-- ---- rows after others
+
+module _
+    (w a b s0 s : ℕ) (d : Float) (m m₁ : List Float) (ok : Bool) (before : RowsFinished w a b s0 s d m ok m₁) (low : s < a) (left : s0 ≤ s)
+    (narrow : s < w) where
+  -- entries of other columns, and of rows from b on, are as they were
   other-kept : (r′ s′ : ℕ) → s′ ≤ r′ → s′ < w → s′ ≢ s → getD m₁ (rowStart w r′ + s′) nan ≡ getD m (rowStart w r′ + s′) nan
   other-kept r′ s′ lower narrow′ ne =
-      before .outside (rowStart w r′ + s′) (λ r″ a b e. ne (row-apart w r′ r″ s′ s (omega arith) (omega arith) e .1))
+      before .outside (rowStart w r′ + s′) (λ r″ l h e. ne (row-apart w r′ r″ s′ s (omega arith) (omega arith) e .1))
 
-  here-kept : getD m₁ (rowStart w r + s) nan ≡ getD m (rowStart w r + s) nan
-  here-kept =
+  here-kept : (r : ℕ) → a ≤ r → b ≤ r → getD m₁ (rowStart w r + s) nan ≡ getD m (rowStart w r + s) nan
+  here-kept r above after =
       before .outside (rowStart w r + s)
-      (λ r″ a b e. let same : r ≡ r″ = row-apart w r r″ s s (omega arith) (omega arith) e .0 in omega arith)
+      (λ r″ l h e. let same : r ≡ r″ = row-apart w r r″ s s (omega arith) (omega arith) e .0 in omega arith)
 
-  less-kept : lessPanel w s0 s m₁ r ≡ lessPanel w s0 s m r
-  less-kept =
-      products-same (rowAt m₁ (rowStart w r + s0)) (rowAt m (rowStart w r + s0)) (rowAt m₁ (rowStart w s + s0)) (rowAt m (rowStart w s + s0)) (s - s0)
+  quotient-kept : (r : ℕ) → a ≤ r → b ≤ r → columnQuotient w s0 s m₁ d r ≡ columnQuotient w s0 s m d r
+  quotient-kept r above after =
+      ap (λ t. div binary64 t d)
+      (products-same (rowAt m₁ (rowStart w r + s0)) (rowAt m (rowStart w r + s0)) (rowAt m₁ (rowStart w s + s0)) (rowAt m (rowStart w s + s0)) (s - s0)
       (getD m₁ (rowStart w r + s) nan) (λ k few. moved r k (omega arith) few) (λ k few. moved s k (omega arith) few)
-      ∙ ap (minusProducts (rowAt m (rowStart w r + s0)) (rowAt m (rowStart w s + s0)) (s - s0)) here-kept
+      ∙ ap (minusProducts (rowAt m (rowStart w r + s0)) (rowAt m (rowStart w s + s0)) (s - s0)) (here-kept r above after))
     where
       moved : (r′ k : ℕ) → s ≤ r′ → k < s - s0 → rowAt m₁ (rowStart w r′ + s0) k ≡ rowAt m (rowStart w r′ + s0) k
       moved r′ k h few =
           let place : rowStart w r′ + (s0 + k) ≡ rowStart w r′ + s0 + k = omega arith in
           rw place at (other-kept r′ (s0 + k) (omega arith) (omega arith) (λ e. omega arith))
 
-  pub under-next :
-      (q : Float) →
-      q
-      ≡ div binary64
-      (minusProducts (rowAt m₁ (rowStart w r + s0)) (rowAt m₁ (rowStart w s + s0)) (s - s0) (getD m₁ (rowStart w r + s0 + (s - s0)) nan)) diagonal →
-      UnderFinished w (r + 1) s0 s diagonal m (ok && finite q) (set m₁ (rowStart w r + s0 + (s - s0)) q)
-  under-next q e =
-      let place : rowStart w r + s0 + (s - s0) ≡ rowStart w r + s = omega arith in
-      let value : q ≡ columnQuotient w s0 s m diagonal r = (rw place at e) ∙ ap (λ t. div binary64 t diagonal) less-kept in
-      let rows : r + 1 - s - 1 ≡ suc (r - s - 1) = omega arith in
-      let last : s + 1 + (r - s - 1) ≡ r = omega arith in
-      let inside : rowStart w r + s < length m₁ = omega (arith, row-next w r, before .kept) in
-      rw place
-      (record {
-        kept = length-set m₁ (rowStart w r + s) q ∙ before .kept;
+  pub rows-join :
+      (e : ℕ) (m₂ : List Float) (ok′ : Bool) → a ≤ b → b ≤ e → RowsFinished w b e s0 s d m₁ ok′ m₂ → RowsFinished w a e s0 s d m (ok && ok′) m₂
+  rows-join e m₂ ok′ ab be then =
+      let split : b - a + (e - b) ≡ e - a = omega arith in
+      record {
+        kept = then .kept ∙ before .kept;
         judged =
-            ap₂ _&&_ (before .judged) (ap finite (value ∙ ap (columnQuotient w s0 s m diagonal) (sym last)))
-            ∙ sym (all-tabulate-next finite (λ r′. columnQuotient w s0 s m diagonal (s + 1 + r′)) (r - s - 1))
-            ∙ ap (λ k. all finite (tabulate k (λ r′. columnQuotient w s0 s m diagonal (s + 1 + r′)))) (sym rows);
-        under = λ r′ low′ high.
-            elim (decLt r′ r) [
+            ap₂ _&&_ (before .judged)
+            (then .judged
+            ∙ ap (all finite)
+            (tabulate-same (λ i. columnQuotient w s0 s m₁ d (b + i)) (λ i. columnQuotient w s0 s m d (a + (b - a + i))) (e - b)
+            (λ i h.
+            let place : b + i ≡ a + (b - a + i) = omega arith in
+            quotient-kept (b + i) (omega arith) (omega arith) ∙ ap (columnQuotient w s0 s m d) place)))
+            ∙ sym (all-append finite (rowsOf w s0 s m d a (b - a)) (tabulate (e - b) (λ i. columnQuotient w s0 s m d (a + (b - a + i)))))
+            ∙ ap (all finite) (sym (tabulate-append (λ r. columnQuotient w s0 s m d (a + r)) (b - a) (e - b)))
+            ∙ ap (λ n. all finite (rowsOf w s0 s m d a n)) split;
+        rows = λ r from to.
+            elim (decLt r b) [
               | yes p ↦
-                  getD-set-other m₁ (rowStart w r + s) (rowStart w r′ + s) q nan (λ z. omega (arith, row-lt w r′ r s p (omega arith)))
-                  ∙ before .under r′ low′ p
-              | no p ↦
-                  let same : r′ ≡ r = omega arith in
-                  rw same (getD-set-same m₁ (rowStart w r + s) q nan inside ∙ value)
+                  then .outside (rowStart w r + s)
+                  (λ r′ l h z. let same : r ≡ r′ = row-apart w r r′ s s (omega arith) (omega arith) z .0 in omega arith)
+                  ∙ before .rows r from p
+              | no p ↦ then .rows r (omega arith) to ∙ quotient-kept r from (omega arith)
             ];
         outside = λ p none.
-            getD-set-other m₁ (rowStart w r + s) p q nan (none r low (omega arith))
-            ∙ before .outside p (λ r′ a b. none r′ a (omega arith));
-      })
+            then .outside p (λ r l h. none r (omega arith) h) ∙ before .outside p (λ r l h. none r l (omega arith));
+      }
+
+-- ---- all rows under the diagonal
+
+pub under-all :
+    (w h s0 s : ℕ) (d : Float) (m : List Float) (ok : Bool) (m′ : List Float) → RowsFinished w (s + 1) h s0 s d m ok m′ →
+    UnderFinished w h s0 s d m ok m′
+under-all w h s0 s d m ok m′ all-rows =
+    let count : h - (s + 1) ≡ h - s - 1 = omega arith in
+    record {
+      kept = all-rows .kept;
+      judged = all-rows .judged ∙ ap (λ n. all finite (rowsOf w s0 s m d (s + 1) n)) count;
+      under = λ r low high. all-rows .rows r (omega arith) high;
+      outside = λ p none. all-rows .outside p (λ r low high. none r (omega arith) high);
+    }

@@ -88,7 +88,14 @@ columnQuotient w s0 s m diagonal r = div binary64 (lessPanel w s0 s m r) diagona
 abbrev pub columnUnder : ℕ → ℕ → ℕ → List Float → Float → ℕ → List Float
 columnUnder w s0 s m diagonal h = tabulate (h - s - 1) (λ r. columnQuotient w s0 s m diagonal (s + 1 + r))
 
--- They are divided by the root, and nothing else changes; they are judged to be finite or not.
+-- Rows from `from` to `to` − 1 of column s are divided by the root, and nothing else changes; they are judged to be finite or not.
+pub record RowsFinished (w from to s0 s : ℕ) (diagonal : Float) (m : List Float) (judgement : Bool) (m′ : List Float) : Type 0 where
+  pub kept : length m′ ≡ length m
+  pub judged : judgement ≡ all finite (tabulate (to - from) (λ r. columnQuotient w s0 s m diagonal (from + r)))
+  pub rows : (r : ℕ) → from ≤ r → r < to → getD m′ (rowStart w r + s) nan ≡ columnQuotient w s0 s m diagonal r
+  pub outside : (p : ℕ) → ((r : ℕ) → from ≤ r → r < to → p ≢ rowStart w r + s) → getD m′ p nan ≡ getD m p nan
+
+-- The same of all rows under the diagonal.
 pub record UnderFinished (w h s0 s : ℕ) (diagonal : Float) (m : List Float) (judgement : Bool) (m′ : List Float) : Type 0 where
   pub kept : length m′ ≡ length m
   pub judged : judgement ≡ all finite (columnUnder w s0 s m diagonal h)

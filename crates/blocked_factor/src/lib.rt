@@ -1,14 +1,16 @@
 // The blocked factor: block column by block column, each less the products of those before it, then finished column by column.
 ghost use mathlib.Core.Path.{_≡_};
+ghost use lib.Dec.{T};
 ghost use Prim.Native.Nat.{ℕ, _+_, _-_, _*_, _≤_, _<_};
 ghost use lib.ListN.{length, getD, replicate};
-ghost use lib.Ieee.{nan};
+ghost use lib.Ieee.{nan, binary64, div};
 ghost use Rattle.binary64.specs.Kinds.{zero64};
 ghost use Rattle.shape.specs.Bounds.{maxOrder};
 ghost use Rattle.shape.specs.Places.{triangle, blockStart, width, blockWork};
+ghost use Rattle.calls.specs.Arithmetic.{minusProducts};
 ghost use Rattle.calls.specs.Calls.{DoneAs, factorize};
 ghost use Rattle.kernels.specs.Kernels.{Filled};
-ghost use Rattle.blocked_factor.specs.BlockColumns.{rowStart, lessPanel, columnQuotient, ColumnFinished, UnderFinished, PanelUpdated};
+ghost use Rattle.blocked_factor.specs.BlockColumns.{rowStart, rowAt, lessPanel, columnQuotient, ColumnFinished, RowsFinished, UnderFinished, PanelUpdated};
 ghost use Rattle.blocked_factor.specs.BlockStages.{PanelFinished, ColumnsFactored};
 ghost use Rattle.blocked_factor.specs.BlockSteps.{BlockAt, SpareRoom, BlockFactored, BlockDone, Saved, Sized, BlocksDone, rowOf};
 
@@ -23,23 +25,102 @@ use kernel::minus_products;
 use binary64::Pivot;
 use calls::CallResult;
 use calls::Layout;
+use kernels::divide8;
+use kernels::gather8;
+use kernels::scatter8;
+use kernels::subtract_rising8;
 use shape::Shape;
 
-// Rows under the diagonal of column s, each less its products with columns s0 .. s − 1 and divided by the root. True where all are finite.
+// Row r of column s: less its products with columns s0 .. s − 1, and divided by the root. True where it is finite.
+fn finish_row(part: &mut [f64], width: usize, r: usize, s0: usize, s: usize, root: f64) -> bool
+    requires { ⌜ (s0 ≤ s) × (s < width) × (s < r) × (r < maxOrder) × (rowStart width (r + 1) ≤ length (now part)) ⌝ }
+    ensures { λ finite. ⌜ RowsFinished width r (r + 1) s0 s root (now (part .entry)) finite (now (part .exit)) ⌝ }
+{
+    let x = Shape::place_in_block(width, r, 0) + s0;
+    let y = Shape::place_in_block(width, s, 0) + s0;
+    let count = s - s0;
+    let quotient = minus_products(part, x, y, count, part[x + count]) / root;
+    part[x + count] = quotient;
+    binary64::is_finite(quotient)
+}
+
+// The places of column s in the eight rows from r on, below the triangle.
+fn row_places8(width: usize, r: usize, s: usize) -> [usize; 8]
+    requires { ⌜ (s < width) × (width ≤ r) × (r + 8 ≤ maxOrder) ⌝ }
+    ensures { λ at. ⌜ ((k : ℕ) → k < 8 → getD at k 0 ≡ rowStart width (r + k) + s) ⌝ }
+{
+    let mut places = [0; 8];
+    let mut at = Shape::place_in_block(width, r, 0) + s;
+    let mut k = 0;
+    while k < 8 {
+        places[k] = at;
+        at += width;
+        k += 1;
+    }
+    places
+}
+
+// Eight entries, each count places past its place `at`, less the products of the values there with those from y on, divided by the root.
+fn quotients8(part: &[f64], at: [usize; 8], y: usize, count: usize, root: f64) -> [f64; 8]
+    requires { ⌜ y + count ≤ length (now part) ⌝ }
+    requires { ⌜ ((k : ℕ) → k < 8 → getD at k 0 + count < length (now part)) ⌝ }
+    ensures { λ q.
+        ⌜ (length q ≡ 8)
+        × ((k : ℕ) → k < 8 →
+        getD q k nan
+        ≡ div binary64
+        (minusProducts (rowAt (now (part .entry)) (getD at k 0)) (rowAt (now (part .entry)) y) count
+        (getD (now (part .entry)) (getD at k 0 + count) nan))
+        root) ⌝ }
+{
+    let start = gather8(part, at, count);
+    let reduced = subtract_rising8(start, part, at, &part[y..y + count]);
+    divide8(reduced, root)
+}
+
+// As `finish_row`, for the eight rows from r on at once.
+fn finish_rows8(part: &mut [f64], width: usize, r: usize, s0: usize, s: usize, root: f64) -> bool
+    requires { ⌜ (s0 ≤ s) × (s < width) × (width ≤ r) × (r + 8 ≤ maxOrder) × (rowStart width (r + 8) ≤ length (now part)) ⌝ }
+    ensures { λ finite. ⌜ RowsFinished width r (r + 8) s0 s root (now (part .entry)) finite (now (part .exit)) ⌝ }
+{
+    let at = row_places8(width, r, s0);
+    let y = Shape::place_in_block(width, s, 0) + s0;
+    let count = s - s0;
+    let quotients = quotients8(part, at, y, count, root);
+    scatter8(part, at, count, quotients);
+    calls::all_finite(&quotients)
+}
+
+// Whether eight rows from r on lie below the triangle.
+fn eight_fit(width: usize, rows: usize, r: usize) -> bool
+    ensures { λ fit. ⌜ (T fit → (width ≤ r) × (r + 8 ≤ rows)) ⌝ }
+{
+    if r < width {
+        return false;
+    }
+    if rows < r {
+        return false;
+    }
+    8 <= rows - r
+}
+
+// The rows under the diagonal of column s, eight at a time below the triangle. True where all are finite.
 fn finish_rows(part: &mut [f64], width: usize, rows: usize, s0: usize, s: usize, root: f64) -> bool
     requires { ⌜ (s0 ≤ s) × (s < width) × (width ≤ rows) × (rows ≤ maxOrder) × (rowStart width rows ≤ length (now part)) ⌝ }
     ensures { λ r. ⌜ UnderFinished width rows s0 s root (now (part .entry)) r (now (part .exit)) ⌝ }
 {
-    let y = Shape::place_in_block(width, s, 0) + s0;
-    let count = s - s0;
     let mut finite = true;
     let mut r = s + 1;
     while r < rows {
-        let x = Shape::place_in_block(width, r, 0) + s0;
-        let quotient = minus_products(part, x, y, count, part[x + count]) / root;
-        part[x + count] = quotient;
-        finite = finite & binary64::is_finite(quotient);
-        r += 1;
+        if eight_fit(width, rows, r) {
+            let eight = finish_rows8(part, width, r, s0, s, root);
+            finite = finite & eight;
+            r += 8;
+        } else {
+            let one = finish_row(part, width, r, s0, s, root);
+            finite = finite & one;
+            r += 1;
+        }
     }
     finite
 }

@@ -1,11 +1,12 @@
 -- Laws of specs/Sequences.antt: lengths and elements of grown lists, and what `all` says of each element. Assumes nothing.
 use Prim.Native.Nat.{ℕ, zero, suc, _+_, _≤_, _<_}
+use native.Mathlib.Nat.{add-zero, add-suc}
 use native.Mathlib.Numerals.{add-one}
 use native.Mathlib.Omega.{arith}
 use native.Mathlib.Decide.{decLt}
-use mathlib.Core.Path.{_≡_, refl, sym, ap, _∙_}
-use mathlib.Core.Bool.{Bool}
-use mathlib.Core.List.{List, [], _∷_}
+use mathlib.Core.Path.{_≡_, refl, sym, ap, ap₂, _∙_}
+use mathlib.Core.Bool.{Bool, _&&_, and-assoc}
+use mathlib.Core.List.{List, [], _∷_, _++_, append-assoc, append-nil}
 use lib.Dec.{T}
 use lib.ListN.{length, getD, take, length-append, List·getD-append}
 use lib.Seq.{getD-at, ext-getD, take-append-le, take-all}
@@ -55,9 +56,29 @@ tabulate-of f n xs d e h =
     ext-getD d (tabulate n f) xs (length-tabulate f n ∙ sym e)
     (λ i p. let q : i < n = omega (arith, length-tabulate f n) in getD-tabulate f n i d q ∙ sym (h i q))
 
+-- tables of functions that agree
+pub tabulate-same : {A : Type 0} (f g : ℕ → A) (n : ℕ) → ((i : ℕ) → i < n → f i ≡ g i) → tabulate n f ≡ tabulate n g
+unfolding tabulate grow
+tabulate-same f g zero same = refl
+tabulate-same f g (suc k) same =
+    ap₂ (λ xs x. xs ++ (x ∷ [])) (tabulate-same f g k (λ i h. same i (omega arith))) (same k (omega arith))
+
+-- a table in two parts
+pub tabulate-append :
+    {A : Type 0} (f : ℕ → A) (a b : ℕ) → tabulate (a + b) f ≡ tabulate a f ++ tabulate b (λ i. f (a + i))
+unfolding tabulate grow
+tabulate-append f a zero = rw add-zero (sym (append-nil (tabulate a f)))
+tabulate-append f a (suc k) =
+    rw add-suc (ap (λ xs. xs ++ (f (a + k) ∷ [])) (tabulate-append f a k) ∙ append-assoc (tabulate a f) (tabulate k (λ i. f (a + i))) (f (a + k) ∷ []))
+
 -- ---- all
 
 module _ {A : Type 0} (test : A → Bool) where
+  pub all-append : (xs ys : List A) → all test (xs ++ ys) ≡ all test xs && all test ys
+  unfolding all
+  all-append [] ys = refl
+  all-append (x ∷ xs) ys = rw (all-append xs ys) (sym (and-assoc (test x) (all test xs) (all test ys)))
+
   pub all-at : (xs : List A) → T (all test xs) → (i : ℕ) (d : A) → i < length xs → T (test (getD xs i d))
   unfolding all
   all-at [] h i d p = absurd (omega arith)

@@ -83,6 +83,15 @@ rising-prefix row x v at m t fits same =
     ap (λ c. risingFrom x at (take m v) c t) size
     ∙ products-same (λ k. getD x (at + k) nan) row (λ k. getD (take m v) k nan) (λ k. getD v k nan) m t same (λ k h. getD-take m v k nan h)
 
+-- with those from a on
+pub rising-part :
+    (x v : List Float) (at a m : ℕ) (t : Float) → a + m ≤ length v →
+    risingFrom x at (take m (drop a v)) (length (take m (drop a v))) t ≡ minusProducts (λ k. getD x (at + k) nan) (λ k. getD v (a + k) nan) m t
+rising-part x v at a m t fits =
+    ap (λ c. risingFrom x at (take m (drop a v)) c t) (length-part nan a m v fits)
+    ∙ products-same (λ k. getD x (at + k) nan) (λ k. getD x (at + k) nan) (λ k. getD (take m (drop a v)) k nan) (λ k. getD v (a + k) nan) m t
+    (λ k h. refl) (λ k h. getD-part nan a m v k h)
+
 up-part : (a m e k : ℕ) → a + m ≡ e → k < m → a + (m - 1 - k) ≡ e - 1 - k
 up-part a m e k end h = omega arith
 

@@ -1,6 +1,7 @@
 -- What the loops over values promise, free of any matrix.
 use Prim.Native.Nat.{ℕ, _+_, _-_, _≤_, _<_}
 use mathlib.Core.Path.{_≡_}
+use mathlib.Core.Logic.{_≢_}
 use mathlib.Core.List.{List}
 use lib.ListN.{length, getD}
 use lib.Ieee.{Float, nan, binary64, sub, mul}
@@ -29,3 +30,9 @@ pub record Filled {A : Type 0} (d : A) (from count : ℕ) (f : ℕ → A) (xs zs
 -- those of ys
 abbrev pub Replaced : {A : Type 0} → A → ℕ → ℕ → List A → List A → List A → Type 0
 Replaced d from count xs ys zs = Filled d from count (λ r. getD ys r d) xs zs
+
+-- v′ is v with the values f 0, f 1, .. at the first count places
+pub record Scattered (count : ℕ) (place : ℕ → ℕ) (f : ℕ → Float) (v v′ : List Float) : Type 0 where
+  pub size : length v′ ≡ length v
+  pub inside : (s : ℕ) → s < count → getD v′ (place s) nan ≡ f s
+  pub outside : (p : ℕ) → ((s : ℕ) → s < count → p ≢ place s) → getD v′ p nan ≡ getD v p nan

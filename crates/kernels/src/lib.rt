@@ -3,8 +3,8 @@
 ghost use mathlib.Core.Path.{_≡_};
 ghost use Prim.Native.Nat.{ℕ, _+_, _≤_, _<_};
 ghost use lib.ListN.{length, getD};
-ghost use lib.Ieee.{nan, binary64, sub, mul};
-ghost use Rattle.kernels.specs.Kernels.{MultipleSubtracted, Replaced, risingFrom, fallingFrom};
+ghost use lib.Ieee.{nan, binary64, sub, mul, div};
+ghost use Rattle.kernels.specs.Kernels.{MultipleSubtracted, Replaced, Scattered, risingFrom, fallingFrom};
 
 // Every value of v less that of x times y.
 pub fn subtract_multiple(v: &mut [f64], x: &[f64], y: f64)
@@ -127,6 +127,32 @@ pub fn gather8(x: &[f64], at: [usize; 8], k: usize) -> [f64; 8]
         s += 1;
     }
     values
+}
+
+// The same positions of v, which differ, are set to the values.
+pub fn scatter8(v: &mut [f64], at: [usize; 8], k: usize, values: [f64; 8])
+    requires { ⌜ ((s : ℕ) → s < 8 → getD at s 0 + k < length (now v)) ⌝ }
+    requires { ⌜ ((s t : ℕ) → s < 8 → t < 8 → getD at s 0 ≡ getD at t 0 → s ≡ t) ⌝ }
+    ensures { λ _. ⌜ Scattered 8 (λ s. getD at s 0 + k) (λ s. getD values s nan) (now (v .entry)) (now (v .exit)) ⌝ }
+{
+    let mut s = 0;
+    while s < 8 {
+        v[at[s] + k] = values[s];
+        s += 1;
+    }
+}
+
+// Eight quotients by y.
+pub fn divide8(t: [f64; 8], y: f64) -> [f64; 8]
+    ensures { λ r. ⌜ (length r ≡ 8) × ((s : ℕ) → s < 8 → getD r s nan ≡ div binary64 (getD t s nan) y) ⌝ }
+{
+    let mut quotients = t;
+    let mut s = 0;
+    while s < 8 {
+        quotients[s] = quotients[s] / y;
+        s += 1;
+    }
+    quotients
 }
 
 // Sixteen values less the products of x[at + s] and y.

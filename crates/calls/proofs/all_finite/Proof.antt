@@ -4,7 +4,7 @@ use Prim.Native.Nat.{ℕ, _+_, _-_, _≤_, _<_}
 use native.Mathlib.Numerals.{add-one}
 use native.Mathlib.Omega.{arith}
 use mathlib.Core.Path.{_≡_, refl, sym, ap, _∙_}
-use mathlib.Core.Bool.{Bool, _&&_, and-assoc, and-true}
+use mathlib.Core.Bool.{Bool, _&&_, and-true}
 use mathlib.Core.List.{List, [], _∷_, _++_}
 use borrow.Author.Needs.{needs}
 use lib.ListN.{length, getD, take}
@@ -12,19 +12,15 @@ use lib.Seq.{take-suc, take-all}
 use lib.Ieee.{nan}
 use Rattle.binary64.specs.Kinds.{finite}
 use Rattle.calls.specs.Sequences.{all}
+use Rattle.calls.proofs.Sequences.{all-append}
 use Rattle.calls.proofs.all_finite.Statement.{statement}
 use Rattle.calls.proofs.all_finite.Tie as tie
 
 module _ {A : Type 0} (test : A → Bool) where
-  all-append : (xs ys : List A) → all test (xs ++ ys) ≡ all test xs && all test ys
-  unfolding all
-  all-append [] ys = refl
-  all-append (x ∷ xs) ys = rw (all-append xs ys) (sym (and-assoc (test x) (all test xs) (all test ys)))
-
   all-take : (xs : List A) (i : ℕ) (d : A) → i < length xs → all test (take (i + 1) xs) ≡ all test (take i xs) && test (getD xs i d)
   unfolding all
   all-take xs i d h =
-      rw (add-one i, take-suc xs i d h) (all-append (take i xs) (getD xs i d ∷ []) ∙ ap (λ (b : Bool). all test (take i xs) && b) (and-true (test (getD xs i d))))
+      rw (add-one i, take-suc xs i d h) (all-append test (take i xs) (getD xs i d ∷ []) ∙ ap (λ (b : Bool). all test (take i xs) && b) (and-true (test (getD xs i d))))
 
 abbrev Inv-loop : tie.InvT-loop
 Inv-loop values passed₀ k₀ passed k = (k ≤ length values) × (passed ≡ all finite (take k values))
