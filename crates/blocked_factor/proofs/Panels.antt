@@ -162,15 +162,15 @@ module _
           let same : rowStart sw (sh - h + (s0 + t)) ≡ rowStart sw (sh - h + s0 + t) = ap (rowStart sw) row in
           omega arith),
       (λ whole. (
-            packed whole .0,
-            record {
-              lane = λ t k few p.
-                  let row : sh - h + (s0 + t) ≡ sh - h + s0 + t = omega arith in
-                  let kept : rowAt m₁ (sat + rowStart sw (sh - h + (s0 + t))) k ≡ rowAt m (sat + rowStart sw (sh - h + (s0 + t))) k =
-                  source-kept (s0 + t) k (omega arith) (omega (arith, source .wide, source .tall)) p
-                  in
-                  packed whole .1 .lane t k few p ∙ sym (rw row at kept);
-            },
+        packed whole .0,
+        record {
+          lane = λ t k few p.
+              let row : sh - h + (s0 + t) ≡ sh - h + s0 + t = omega arith in
+              let kept : rowAt m₁ (sat + rowStart sw (sh - h + (s0 + t))) k ≡ rowAt m (sat + rowStart sw (sh - h + (s0 + t))) k =
+              source-kept (s0 + t) k (omega arith) (omega (arith, source .wide, source .tall)) p
+              in
+              packed whole .1 .lane t k few p ∙ sym (rw row at kept);
+        },
       )),
     ),
   )

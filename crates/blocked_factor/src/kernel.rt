@@ -6,11 +6,11 @@ ghost use lib.Ieee.{nan};
 ghost use Rattle.calls.specs.Arithmetic.{minusProducts};
 ghost use Rattle.kernels.specs.Kernels.{Filled};
 ghost use Rattle.blocked_factor.specs.BlockColumns.{rowAt, laneAt, LanePacked};
-use kernels::load16;
 use kernels::load_part16;
+use kernels::load16;
 use kernels::step16;
-use kernels::store16;
 use kernels::store_part16;
+use kernels::store16;
 
 // t less the products of the count values from place x on with those from place y on.
 pub fn minus_products(m: &[f64], x: usize, y: usize, count: usize, t: f64) -> f64

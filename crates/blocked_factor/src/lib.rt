@@ -17,19 +17,19 @@ ghost use Rattle.blocked_factor.specs.BlockSteps.{BlockAt, SpareRoom, Bl
 mod kernel;
 mod update;
 
-use update::BlockColumn;
-use update::least;
-use update::update_block;
-use update::update_panel;
-use kernel::minus_products;
 use binary64::Pivot;
 use calls::CallResult;
 use calls::Layout;
+use kernel::minus_products;
 use kernels::divide8;
 use kernels::gather8;
 use kernels::scatter8;
 use kernels::subtract_rising8;
 use shape::Shape;
+use update::BlockColumn;
+use update::least;
+use update::update_block;
+use update::update_panel;
 
 // Row r of column s: less its products with columns s0 .. s − 1, and divided by the root. True where it is finite.
 fn finish_row(part: &mut [f64], width: usize, r: usize, s0: usize, s: usize, root: f64) -> bool
@@ -279,22 +279,14 @@ fn save(m: &[f64], work: &mut [f64], start: usize, size: usize)
     requires { ⌜ (start + size ≤ length (now m)) × (size ≤ length (now work)) ⌝ }
     ensures { λ r. ⌜ Saved start size (now (m .entry)) (now (work .exit)) ⌝ }
 {
-    let mut k = 0;
-    while k < size {
-        work[k] = m[start + k];
-        k += 1;
-    }
+    kernels::copy(&m[start..start + size], &mut work[..size]);
 }
 
 fn restore(m: &mut [f64], work: &[f64], start: usize, size: usize)
     requires { ⌜ (start + size ≤ length (now m)) × (size ≤ length (now work)) ⌝ }
     ensures { λ r. ⌜ Filled nan start size (λ k. getD (now (work .entry)) k nan) (now (m .entry)) (now (m .exit)) ⌝ }
 {
-    let mut k = 0;
-    while k < size {
-        m[start + k] = work[k];
-        k += 1;
-    }
+    kernels::copy(&work[..size], &mut m[start..start + size]);
 }
 
 // As `factor_part`, with the work memory past the kept entry values as spare.

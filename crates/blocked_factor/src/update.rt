@@ -10,8 +10,8 @@ ghost use Rattle.kernels.specs.Kernels.{Filled};
 ghost use Rattle.blocked_factor.specs.BlockColumns.{rowStart, rowAt, sourceAt, Packed, PanelUpdated, Source};
 use crate::kernel::minus_products;
 use crate::kernel::pack_lane;
-use crate::kernel::update16;
 use crate::kernel::update_part16;
+use crate::kernel::update16;
 use shape::Shape;
 
 // Where a block column starts in a memory, its columns and its rows.

@@ -1,3 +1,4 @@
+-- `blocked_factor::finish_row` meets its contract. Assumes nothing.
 use Prim.Native.Nat.{_+_, _-_}
 use native.Mathlib.Omega.{arith}
 use mathlib.Core.Path.{ap}
@@ -34,8 +35,14 @@ slice-reshared-read-minus-products c = omega (arith, c .before .before .place-in
 
 minus-products-requires : tie.Need-minus-products-requires
 minus-products-requires c κs =
-    omega (arith, c .before .before .place-in-block .ensures, c .before .place-in-block2 .ensures, c .before .before .before .before .pre, row-next (c .before .before .before .before .args .width) (c .before .before .before .before .args .r),
-    row-within (c .before .before .before .before .args .width) (c .before .before .before .before .args .s) (c .before .before .before .before .args .r) (omega (arith, c .before .before .before .before .pre)))
+    omega (
+      arith,
+      c .before .before .place-in-block .ensures,
+      c .before .place-in-block2 .ensures,
+      c .before .before .before .before .pre,
+      row-next (c .before .before .before .before .args .width) (c .before .before .before .before .args .r),
+      row-within (c .before .before .before .before .args .width) (c .before .before .before .before .args .s) (c .before .before .before .before .args .r) (omega (arith, c .before .before .before .before .pre)),
+    )
 
 add-part : tie.Need-add-part
 add-part c = omega (arith, c .before .before .before .place-in-block .ensures, c .before .before .before .before .before .pre, c .before .before .before .before .before .good, row-next (c .before .before .before .before .before .args .width) (c .before .before .before .before .before .args .r))

@@ -1,3 +1,4 @@
+-- `blocked_factor::finish_rows8` meets its contract. Assumes nothing.
 use Prim.Native.Nat.{ℕ, _+_}
 use native.Mathlib.Omega.{arith}
 use lib.ListN.{getD}
@@ -24,16 +25,24 @@ quotients8-requires c κs =
     let a = c .before .before .before .before .args in (
       omega (arith, c .before .place-in-block .ensures, c .before .before .before .before .pre, row-within (a .width) (a .s) (a .r + 8) (omega (arith, c .before .before .before .before .pre))),
       λ k few.
-          omega (arith, c .before .before .before .before .pre, eight-inside (a .width) (a .r) (a .s0) (a .s) (λ (q : ℕ). getD (c .before .before .row-places8 .result) q 0) (omega (arith, c .before .before .before .before .pre)) (omega (arith, c .before .before .before .before .pre)) (omega (arith, c .before .before .before .before .pre))
-          (c .before .before .row-places8 .ensures) k few),
+          omega (
+            arith,
+            c .before .before .before .before .pre,
+            eight-inside (a .width) (a .r) (a .s0) (a .s) (λ (q : ℕ). getD (c .before .before .row-places8 .result) q 0) (omega (arith, c .before .before .before .before .pre)) (omega (arith, c .before .before .before .before .pre)) (omega (arith, c .before .before .before .before .pre))
+                (c .before .before .row-places8 .ensures) k few,
+          ),
     )
 
 scatter8-requires : tie.Need-scatter8-requires
 scatter8-requires c κs =
     let a = c .before .before .before .before .before .before .args in (
       λ k few.
-          omega (arith, c .before .before .before .before .before .before .pre, eight-inside (a .width) (a .r) (a .s0) (a .s) (λ (q : ℕ). getD (c .before .before .before .before .row-places8 .result) q 0) (omega (arith, c .before .before .before .before .before .before .pre)) (omega (arith, c .before .before .before .before .before .before .pre)) (omega (arith, c .before .before .before .before .before .before .pre))
-          (c .before .before .before .before .row-places8 .ensures) k few),
+          omega (
+            arith,
+            c .before .before .before .before .before .before .pre,
+            eight-inside (a .width) (a .r) (a .s0) (a .s) (λ (q : ℕ). getD (c .before .before .before .before .row-places8 .result) q 0) (omega (arith, c .before .before .before .before .before .before .pre)) (omega (arith, c .before .before .before .before .before .before .pre)) (omega (arith, c .before .before .before .before .before .before .pre))
+                (c .before .before .before .before .row-places8 .ensures) k few,
+          ),
       eight-apart (a .width) (a .r) (a .s0) (a .s) (λ (q : ℕ). getD (c .before .before .before .before .row-places8 .result) q 0) (omega (arith, c .before .before .before .before .before .before .pre)) (omega (arith, c .before .before .before .before .before .before .pre)) (omega (arith, c .before .before .before .before .before .before .pre)) (c .before .before .before .before .row-places8 .ensures),
     )
 

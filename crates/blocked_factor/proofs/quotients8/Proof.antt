@@ -1,3 +1,4 @@
+-- `blocked_factor::quotients8` meets its contract. Assumes nothing.
 use native.Mathlib.Omega.{arith}
 use Prim.Native.Nat.{_+_, _-_}
 use mathlib.Core.Path.{_≡_, ap, ap₂, _∙_}

@@ -1,72 +1,71 @@
 -- `blocked_factor::restore` meets its contract. Assumes nothing.
-use Prim.Native.Nat.{ℕ, _-_, _≤_}
+use Prim.Native.Nat.{_+_, _-_}
 use native.Mathlib.Omega.{arith}
-use mathlib.Core.Path.{_≡_, refl}
-use lib.ListN.{getD}
-use lib.Ieee.{nan}
-use Rattle.kernels.specs.Kernels.{Filled}
-use Rattle.kernels.proofs.Parts.{filled-none, filled-next}
+use mathlib.Core.Path.{_≡_, ap, _∙_}
+use mathlib.Core.List.{List}
+use lib.ListN.{getD, length, length-take}
+use lib.Seq.{getD-take}
+use lib.Ieee.{Float, nan}
+use Rattle.kernels.proofs.Parts.{part-replaced, length-part}
+use borrow.Author.Needs.{needs}
 use Rattle.blocked_factor.proofs.restore.Statement.{statement}
 use Rattle.blocked_factor.proofs.restore.Tie as tie
 
-abbrev Inv-loop : tie.InvT-loop
-Inv-loop m₀ work start size k₀ m k = (k ≤ size) × Filled nan start k (λ u. getD work u nan) m₀ m
+slice-aggregate-copy : tie.Need-slice-aggregate-copy
+slice-aggregate-copy c = omega (arith, c .before .before .before .pre, length-take (c .before .before .before .args .size) (c .before .before .before .args .work .now))
 
-abbrev μ-loop : tie.MeasureT-loop
-μ-loop m₀ work start size k₀ m k = size - k
+add-copy : tie.Need-add-copy
+add-copy c = search needs
 
-loop-holds : tie.Need-loop-holds Inv-loop μ-loop
-loop-holds c = (omega arith, filled-none nan _ _ _)
+mul-copy : tie.Need-mul-copy
+mul-copy c = search needs
 
-mul-m : tie.Need-mul-m Inv-loop μ-loop
-mul-m c = omega arith
+sub-copy : tie.Need-sub-copy
+sub-copy c = search needs
 
-shared-slice-read-m : tie.Need-shared-slice-read-m Inv-loop μ-loop
-shared-slice-read-m c = omega arith
+part-copy-start : tie.Need-part-copy-start
+part-copy-start c = search needs
 
-add-m : tie.Need-add-m Inv-loop μ-loop
-add-m c = omega arith
+part-copy-end : tie.Need-part-copy-end
+part-copy-end c = search needs
 
-mul-m-2 : tie.Need-mul-m-2 Inv-loop μ-loop
-mul-m-2 c = omega (arith, c .before .before .loop .inv .1 .size)
+copy-requires : tie.Need-copy-requires
+copy-requires c κs =
+    let a = c .before .before .before .before .args in
+    omega (arith, c .before .before .before .before .pre, length-take (a .size) (a .work .now), length-part nan (a .start) (a .start + a .size - a .start) (a .m .now) (omega (arith, c .before .before .before .before .pre)))
 
-slice-write-m : tie.Need-slice-write-m Inv-loop μ-loop
-slice-write-m c = omega (arith, c .before .before .loop .inv .1 .size)
+same-length : tie.Need-same-length
+same-length c = search needs
 
-add-k : tie.Need-add-k Inv-loop μ-loop
-add-k c = omega arith
-
-loop-less : tie.Need-loop-less Inv-loop μ-loop
-loop-less c = omega arith
-
-loop-again : tie.Need-loop-again Inv-loop μ-loop
-loop-again c =
-    let a = c .before .before .before .args in
-    let l = c .before .before .loop in
-    (omega arith, filled-next nan (a .start) (λ (u : ℕ). getD (a .work .now) u nan) (a .m .now) (l .k) (l .m) _ (omega arith) (l .inv .1) refl)
-
-same-length : tie.Need-same-length Inv-loop μ-loop
-same-length c = c .before .loop .inv .1 .size
-
-returns : tie.Need-returns Inv-loop μ-loop
+returns : tie.Need-returns
 returns c =
-    let e : c .before .loop .k ≡ c .before .before .args .size = omega arith in
-    rw e at (c .before .loop .inv .1)
+    let a = c .before .before .before .before .before .before .before .args in
+    let ys = c .before .before .copy .last .1 .0 in
+    let size : length ys ≡ a .start + a .size - a .start =
+    omega (arith, c .before .before .before .before .before .before .before .pre, ap (λ (xs : List Float). length xs) (c .before .before .copy .ensures), length-take (a .size) (a .work .now))
+    in
+    let whole =
+    part-replaced nan (a .start) (a .start + a .size - a .start) (a .m .now) ys (omega (arith, c .before .before .before .before .before .before .before .pre)) size
+    in
+    record {
+      size = whole .size;
+      before = whole .before;
+      inside = λ r h.
+          whole .inside r (omega arith) ∙ ap (λ (xs : List Float). getD xs r nan) (c .before .before .copy .ensures)
+          ∙ getD-take (a .size) (a .work .now) r nan h;
+      after = λ i h. whole .after i (omega arith);
+    }
 
 pub restore-spec : {M : Type 1} → statement M
 restore-spec =
     tie.close
     (tie.spec
-    Inv-loop
-    μ-loop
-    loop-holds
-    mul-m
-    shared-slice-read-m
-    add-m
-    mul-m-2
-    slice-write-m
-    add-k
-    loop-less
-    loop-again
+    slice-aggregate-copy
+    add-copy
+    mul-copy
+    sub-copy
+    part-copy-start
+    part-copy-end
+    copy-requires
     same-length
     returns)

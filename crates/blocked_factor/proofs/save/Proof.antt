@@ -1,71 +1,70 @@
 -- `blocked_factor::save` meets its contract. Assumes nothing.
-use Prim.Native.Nat.{ℕ, _+_, _-_, _≤_, _<_}
+use Prim.Native.Nat.{_+_, _-_}
 use native.Mathlib.Omega.{arith}
-use mathlib.Core.Path.{_≡_, refl, _∙_}
-use lib.ListN.{length, getD, length-set}
-use lib.Ieee.{nan}
-use Rattle.blocked_factor.proofs.BlockParts.{saved-next}
+use mathlib.Core.Path.{_≡_, ap, _∙_}
+use mathlib.Core.List.{List}
+use lib.ListN.{getD, length, length-take}
+use lib.Ieee.{Float, nan}
+use Rattle.kernels.proofs.Parts.{prefix-replaced, getD-part, length-part}
+use borrow.Author.Needs.{needs}
 use Rattle.blocked_factor.proofs.save.Statement.{statement}
 use Rattle.blocked_factor.proofs.save.Tie as tie
 
-abbrev Inv-loop : tie.InvT-loop
-Inv-loop m work₀ start size k₀ work k = (k ≤ size) × (length work ≡ length work₀) × ((j : ℕ) → j < k → getD work j nan ≡ getD m (start + j) nan)
+add-copy : tie.Need-add-copy
+add-copy c = search needs
 
-abbrev μ-loop : tie.MeasureT-loop
-μ-loop m work₀ start size k₀ work k = size - k
+mul-copy : tie.Need-mul-copy
+mul-copy c = search needs
 
-loop-holds : tie.Need-loop-holds Inv-loop μ-loop
-loop-holds c = (omega arith, refl, λ j h. absurd (omega arith))
+sub-copy : tie.Need-sub-copy
+sub-copy c = search needs
 
-add-work : tie.Need-add-work Inv-loop μ-loop
-add-work c = omega arith
+part-copy-start : tie.Need-part-copy-start
+part-copy-start c = search needs
 
-mul-work : tie.Need-mul-work Inv-loop μ-loop
-mul-work c = omega arith
+part-copy-end : tie.Need-part-copy-end
+part-copy-end c = search needs
 
-shared-slice-read-work : tie.Need-shared-slice-read-work Inv-loop μ-loop
-shared-slice-read-work c = omega arith
+slice-relend-prefix-copy : tie.Need-slice-relend-prefix-copy
+slice-relend-prefix-copy c = search needs
 
-mul-work-2 : tie.Need-mul-work-2 Inv-loop μ-loop
-mul-work-2 c = omega arith
+slice-aggregate-copy : tie.Need-slice-aggregate-copy
+slice-aggregate-copy c = omega (arith, c .before .before .before .before .pre, length-take (c .before .before .before .before .args .size) (c .before .before .before .before .args .work .now))
 
-slice-write-work : tie.Need-slice-write-work Inv-loop μ-loop
-slice-write-work c = omega (arith, c .before .before .loop .inv .1)
+copy-requires : tie.Need-copy-requires
+copy-requires c κs =
+    let a = c .before .before .before .before .args in
+    omega (arith, c .before .before .before .before .pre, length-take (a .size) (a .work .now), length-part nan (a .start) (a .start + a .size - a .start) (a .m .now) (omega (arith, c .before .before .before .before .pre)))
 
-add-k : tie.Need-add-k Inv-loop μ-loop
-add-k c = omega arith
+same-length : tie.Need-same-length
+same-length c = search needs
 
-loop-less : tie.Need-loop-less Inv-loop μ-loop
-loop-less c = omega arith
-
-loop-again : tie.Need-loop-again Inv-loop μ-loop
-loop-again c =
-    let a = c .before .before .before .args in
-    let l = c .before .before .loop in
-    (omega arith, (length-set (l .work) (l .k) _ ∙ l .inv .1), saved-next (a .m .now) (l .work) (a .start) (l .k) (omega (arith, l .inv .1)) (l .inv .2))
-
-same-length : tie.Need-same-length Inv-loop μ-loop
-same-length c = c .before .loop .inv .1
-
-returns : tie.Need-returns Inv-loop μ-loop
+returns : tie.Need-returns
 returns c =
-    let e : c .before .loop .k ≡ c .before .before .args .size = omega arith in
-    record { value = λ k h. c .before .loop .inv .2 k (omega arith) }
+    let a = c .before .before .before .before .before .before .before .args in
+    let ys = c .before .before .copy .last .1 .0 in
+    let size : length ys ≡ a .size =
+    omega (arith, c .before .before .before .before .before .before .before .pre, ap (λ (xs : List Float). length xs) (c .before .before .copy .ensures), length-part nan (a .start) (a .start + a .size - a .start) (a .m .now) (omega (arith, c .before .before .before .before .before .before .before .pre)))
+    in
+    record {
+      value = λ k h.
+          let at : 0 + k ≡ k = omega arith in
+          rw at at (prefix-replaced nan (a .size) (a .work .now) ys (omega (arith, c .before .before .before .before .before .before .before .pre)) size .inside k h)
+          ∙ ap (λ (xs : List Float). getD xs k nan) (c .before .before .copy .ensures)
+          ∙ getD-part nan (a .start) (a .start + a .size - a .start) (a .m .now) k (omega arith);
+    }
 
 pub save-spec : {M : Type 1} → statement M
 save-spec =
     tie.close
     (tie.spec
-    Inv-loop
-    μ-loop
-    loop-holds
-    add-work
-    mul-work
-    shared-slice-read-work
-    mul-work-2
-    slice-write-work
-    add-k
-    loop-less
-    loop-again
+    add-copy
+    mul-copy
+    sub-copy
+    part-copy-start
+    part-copy-end
+    slice-relend-prefix-copy
+    slice-aggregate-copy
+    copy-requires
     same-length
     returns)

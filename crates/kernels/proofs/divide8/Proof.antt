@@ -38,13 +38,12 @@ loop-less : tie.Need-loop-less Inv-loop μ-loop
 loop-less c = omega arith
 
 loop-again : tie.Need-loop-again Inv-loop μ-loop
-loop-again c =
-    (
-      omega arith,
-      c .before .loop .inv .1,
-      stored-next nan _ _ (c .before .loop .s) (c .before .loop .quotients) _ (omega arith) (c .before .loop .inv .2)
-          (ap (λ (u : Float). div binary64 u (c .before .before .args .y)) (c .before .loop .inv .2 .rest (c .before .loop .s) (le-refl _))),
-    )
+loop-again c = (
+  omega arith,
+  c .before .loop .inv .1,
+  stored-next nan _ _ (c .before .loop .s) (c .before .loop .quotients) _ (omega arith) (c .before .loop .inv .2)
+      (ap (λ (u : Float). div binary64 u (c .before .before .args .y)) (c .before .loop .inv .2 .rest (c .before .loop .s) (le-refl _))),
+)
 
 returns : tie.Need-returns Inv-loop μ-loop
 returns c = (c .before .loop .inv .2 .size ∙ c .before .loop .inv .1, λ s h. c .before .loop .inv .2 .done s (omega arith))

@@ -1,3 +1,4 @@
+-- `blocked_factor::kernel::update_part16` meets its contract. Assumes nothing.
 use native.Mathlib.Omega.{arith}
 use Rattle.blocked_factor.proofs.Panels.{filled-lanes}
 use borrow.Author.Needs.{needs}

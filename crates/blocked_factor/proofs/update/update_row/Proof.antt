@@ -1,3 +1,4 @@
+-- `blocked_factor::update::update_row` meets its contract. Assumes nothing.
 use native.Mathlib.Omega.{arith}
 use mathlib.Core.Path.{_≡_}
 use Rattle.blocked_factor.proofs.Panels.{filled-packed}

@@ -1,3 +1,4 @@
+-- `blocked_factor::update::update_rows` meets its contract. Assumes nothing.
 use borrow.Author.Needs.{needs}
 use Prim.Native.Nat.{ℕ, _+_, _-_, _≤_}
 use native.Mathlib.Nat.{le-refl}
@@ -31,31 +32,52 @@ place-in-block-requires c κs = omega (arith, c .before .before .before .before 
 
 add-x : tie.Need-add-x Inv-loop μ-loop
 add-x c =
-    omega (arith, c .before .place-in-block .ensures, c .before .before .before .before .before .before .pre .0 .rows, c .before .before .before .before .before .before .pre .0 .wide, c .before .before .before .before .before .before .pre .0 .tall, c .before .before .before .before .before .before .pre .0 .below, c .before .before .before .before .before .before .good,
-    row-mono (c .before .before .before .before .before .before .args .source .width) (c .before .before .before .before .before .before .args .source .rows - c .before .before .before .before .before .before .args .target .rows + c .before .before .before .before .before .before .args .s0) (c .before .before .before .before .before .before .args .source .rows) (omega (arith, c .before .before .before .before .before .before .pre .0 .wide, c .before .before .before .before .before .before .pre .0 .tall, c .before .before .before .before .before .before .pre .0 .below)))
+    omega (
+      arith,
+      c .before .place-in-block .ensures,
+      c .before .before .before .before .before .before .pre .0 .rows,
+      c .before .before .before .before .before .before .pre .0 .wide,
+      c .before .before .before .before .before .before .pre .0 .tall,
+      c .before .before .before .before .before .before .pre .0 .below,
+      c .before .before .before .before .before .before .good,
+      row-mono (c .before .before .before .before .before .before .args .source .width) (c .before .before .before .before .before .before .args .source .rows - c .before .before .before .before .before .before .args .target .rows + c .before .before .before .before .before .before .args .s0) (c .before .before .before .before .before .before .args .source .rows) (omega (arith, c .before .before .before .before .before .before .pre .0 .wide, c .before .before .before .before .before .before .pre .0 .tall, c .before .before .before .before .before .before .pre .0 .below)),
+    )
 
 place-in-block-requires-2 : tie.Need-place-in-block-requires-2 Inv-loop μ-loop
 place-in-block-requires-2 c κs = omega (arith, c .before .before .before .before .before .before .pre .0 .below, c .before .before .before .before .before .before .pre .0 .order, c .before .before .before .before .before .before .pre .0 .wide, c .before .before .before .before .before .before .pre .0 .tall)
 
 add-y : tie.Need-add-y Inv-loop μ-loop
 add-y c =
-    omega (arith, c .before .place-in-block2 .ensures, c .before .before .before .before .before .before .before .before .pre .0 .room, c .before .before .before .before .before .before .before .before .good,
-    row-mono (c .before .before .before .before .before .before .before .before .args .target .width) (c .before .before .before .before .before .before .before .before .args .s0) (c .before .before .before .before .before .before .before .before .args .target .rows) (omega (arith, c .before .before .before .before .before .before .before .before .pre .0 .wide, c .before .before .before .before .before .before .before .before .pre .0 .tall)))
+    omega (
+      arith,
+      c .before .place-in-block2 .ensures,
+      c .before .before .before .before .before .before .before .before .pre .0 .room,
+      c .before .before .before .before .before .before .before .before .good,
+      row-mono (c .before .before .before .before .before .before .before .before .args .target .width) (c .before .before .before .before .before .before .before .before .args .s0) (c .before .before .before .before .before .before .before .before .args .target .rows) (omega (arith, c .before .before .before .before .before .before .before .before .pre .0 .wide, c .before .before .before .before .before .before .before .before .pre .0 .tall)),
+    )
 
 add-y-2 : tie.Need-add-y-2 Inv-loop μ-loop
 add-y-2 c =
-    omega (arith, c .before .place-in-block2 .ensures, c .before .before .before .before .before .before .before .before .pre .0 .room, c .before .before .before .before .before .before .before .before .pre .0 .wide, c .before .before .before .before .before .before .before .before .pre .0 .tall, c .before .before .before .before .before .before .before .before .pre .0 .below, c .before .before .before .before .before .before .before .before .pre .0 .order, c .before .before .before .before .before .before .before .before .good,
-    row-mono (c .before .before .before .before .before .before .before .before .args .target .width) (c .before .before .before .before .before .before .before .before .args .s0) (c .before .before .before .before .before .before .before .before .args .target .rows) (omega (arith, c .before .before .before .before .before .before .before .before .pre .0 .wide, c .before .before .before .before .before .before .before .before .pre .0 .tall)))
+    omega (
+      arith,
+      c .before .place-in-block2 .ensures,
+      c .before .before .before .before .before .before .before .before .pre .0 .room,
+      c .before .before .before .before .before .before .before .before .pre .0 .wide,
+      c .before .before .before .before .before .before .before .before .pre .0 .tall,
+      c .before .before .before .before .before .before .before .before .pre .0 .below,
+      c .before .before .before .before .before .before .before .before .pre .0 .order,
+      c .before .before .before .before .before .before .before .before .good,
+      row-mono (c .before .before .before .before .before .before .before .before .args .target .width) (c .before .before .before .before .before .before .before .before .args .s0) (c .before .before .before .before .before .before .before .before .args .target .rows) (omega (arith, c .before .before .before .before .before .before .before .before .pre .0 .wide, c .before .before .before .before .before .before .before .before .pre .0 .tall)),
+    )
 
 loop-holds : tie.Need-loop-holds Inv-loop μ-loop
-loop-holds c =
-    (
-      le-refl _,
-      omega (arith, c .before .before .before .before .before .before .before .before .pre .0 .wide, c .before .before .before .before .before .before .before .before .pre .0 .tall),
-      ap (λ (z : ℕ). c .before .before .before .before .before .before .before .before .args .source .start + z) (c .before .before .before .place-in-block .ensures),
-      ap (λ (z : ℕ). c .before .before .before .before .before .before .before .before .args .target .start + z + c .before .before .before .before .before .before .before .before .args .s0) (c .before .place-in-block2 .ensures),
-      panel-none _ _ _ _ _ _ _,
-    )
+loop-holds c = (
+  le-refl _,
+  omega (arith, c .before .before .before .before .before .before .before .before .pre .0 .wide, c .before .before .before .before .before .before .before .before .pre .0 .tall),
+  ap (λ (z : ℕ). c .before .before .before .before .before .before .before .before .args .source .start + z) (c .before .before .before .place-in-block .ensures),
+  ap (λ (z : ℕ). c .before .before .before .before .before .before .before .before .args .target .start + z + c .before .before .before .before .before .before .before .before .args .s0) (c .before .place-in-block2 .ensures),
+  panel-none _ _ _ _ _ _ _,
+)
 
 add-least : tie.Need-add-least Inv-loop μ-loop
 add-least c = omega (arith, c .before .before .before .before .before .before .before .before .before .before .before .pre .0 .below, c .before .before .before .before .before .before .before .before .before .before .before .pre .0 .order, c .if1 .taken)
@@ -84,17 +106,37 @@ least-requires-2 c κs = search needs
 
 add-x-2 : tie.Need-add-x-2 Inv-loop μ-loop
 add-x-2 c =
-    omega (arith, c .least2 .ensures, c .before .before .before .before .before .before .before .before .loop .inv .2, c .before .before .before .before .before .before .before .before .before .before .before .before .before .before .before .before .before .pre .0 .rows, c .before .before .before .before .before .before .before .before .before .before .before .before .before .before .before .before .before .pre .0 .below, c .before .before .before .before .before .before .if1 .taken, c .before .before .before .before .before .before .before .before .before .before .before .before .before .before .before .before .before .good,
-    row-next (c .before .before .before .before .before .before .before .before .before .before .before .before .before .before .before .before .before .args .source .width) (c .before .before .before .before .before .before .before .before .before .before .before .before .before .before .before .before .before .args .source .rows - c .before .before .before .before .before .before .before .before .before .before .before .before .before .before .before .before .before .args .target .rows + c .before .before .before .before .before .before .before .before .loop .r),
-    row-mono (c .before .before .before .before .before .before .before .before .before .before .before .before .before .before .before .before .before .args .source .width) (c .before .before .before .before .before .before .before .before .before .before .before .before .before .before .before .before .before .args .source .rows - c .before .before .before .before .before .before .before .before .before .before .before .before .before .before .before .before .before .args .target .rows + c .before .before .before .before .before .before .before .before .loop .r + 1) (c .before .before .before .before .before .before .before .before .before .before .before .before .before .before .before .before .before .args .source .rows) (omega (arith, c .before .before .before .before .before .before .before .before .before .before .before .before .before .before .before .before .before .pre .0 .below, c .before .before .before .before .before .before .if1 .taken)))
+    omega (
+      arith,
+      c .least2 .ensures,
+      c .before .before .before .before .before .before .before .before .loop .inv .2,
+      c .before .before .before .before .before .before .before .before .before .before .before .before .before .before .before .before .before .pre .0 .rows,
+      c .before .before .before .before .before .before .before .before .before .before .before .before .before .before .before .before .before .pre .0 .below,
+      c .before .before .before .before .before .before .if1 .taken,
+      c .before .before .before .before .before .before .before .before .before .before .before .before .before .before .before .before .before .good,
+      row-next (c .before .before .before .before .before .before .before .before .before .before .before .before .before .before .before .before .before .args .source .width) (c .before .before .before .before .before .before .before .before .before .before .before .before .before .before .before .before .before .args .source .rows - c .before .before .before .before .before .before .before .before .before .before .before .before .before .before .before .before .before .args .target .rows + c .before .before .before .before .before .before .before .before .loop .r),
+      row-mono (c .before .before .before .before .before .before .before .before .before .before .before .before .before .before .before .before .before .args .source .width) (c .before .before .before .before .before .before .before .before .before .before .before .before .before .before .before .before .before .args .source .rows - c .before .before .before .before .before .before .before .before .before .before .before .before .before .before .before .before .before .args .target .rows + c .before .before .before .before .before .before .before .before .loop .r + 1) (c .before .before .before .before .before .before .before .before .before .before .before .before .before .before .before .before .before .args .source .rows) (omega (arith, c .before .before .before .before .before .before .before .before .before .before .before .before .before .before .before .before .before .pre .0 .below, c .before .before .before .before .before .before .if1 .taken)),
+    )
 
 least-requires-3 : tie.Need-least-requires-3 Inv-loop μ-loop
 least-requires-3 c κs = search needs
 
 add-y-3 : tie.Need-add-y-3 Inv-loop μ-loop
 add-y-3 c =
-    omega (arith, c .least3 .ensures, c .before .before .before .before .before .before .before .before .before .loop .inv .3, c .before .before .before .before .before .before .before .before .before .before .before .before .before .before .before .before .before .before .pre .0 .room, c .before .before .before .before .before .before .before .before .before .before .before .before .before .before .before .before .before .before .pre .0 .wide, c .before .before .before .before .before .before .before .before .before .before .before .before .before .before .before .before .before .before .pre .0 .tall, c .before .before .before .before .before .before .before .before .before .before .before .before .before .before .before .before .before .before .pre .0 .below, c .before .before .before .before .before .before .before .before .before .before .before .before .before .before .before .before .before .before .pre .0 .order, c .before .before .before .before .before .before .before .if1 .taken, c .before .before .before .before .before .before .before .before .before .before .before .before .before .before .before .before .before .before .good,
-    row-next (c .before .before .before .before .before .before .before .before .before .before .before .before .before .before .before .before .before .before .args .target .width) (c .before .before .before .before .before .before .before .before .before .loop .r), row-mono (c .before .before .before .before .before .before .before .before .before .before .before .before .before .before .before .before .before .before .args .target .width) (c .before .before .before .before .before .before .before .before .before .loop .r + 1) (c .before .before .before .before .before .before .before .before .before .before .before .before .before .before .before .before .before .before .args .target .rows) (omega (arith, c .before .before .before .before .before .before .before .if1 .taken)))
+    omega (
+      arith,
+      c .least3 .ensures,
+      c .before .before .before .before .before .before .before .before .before .loop .inv .3,
+      c .before .before .before .before .before .before .before .before .before .before .before .before .before .before .before .before .before .before .pre .0 .room,
+      c .before .before .before .before .before .before .before .before .before .before .before .before .before .before .before .before .before .before .pre .0 .wide,
+      c .before .before .before .before .before .before .before .before .before .before .before .before .before .before .before .before .before .before .pre .0 .tall,
+      c .before .before .before .before .before .before .before .before .before .before .before .before .before .before .before .before .before .before .pre .0 .below,
+      c .before .before .before .before .before .before .before .before .before .before .before .before .before .before .before .before .before .before .pre .0 .order,
+      c .before .before .before .before .before .before .before .if1 .taken,
+      c .before .before .before .before .before .before .before .before .before .before .before .before .before .before .before .before .before .before .good,
+      row-next (c .before .before .before .before .before .before .before .before .before .before .before .before .before .before .before .before .before .before .args .target .width) (c .before .before .before .before .before .before .before .before .before .loop .r),
+      row-mono (c .before .before .before .before .before .before .before .before .before .before .before .before .before .before .before .before .before .before .args .target .width) (c .before .before .before .before .before .before .before .before .before .loop .r + 1) (c .before .before .before .before .before .before .before .before .before .before .before .before .before .before .before .before .before .before .args .target .rows) (omega (arith, c .before .before .before .before .before .before .before .if1 .taken)),
+    )
 
 loop-less : tie.Need-loop-less Inv-loop μ-loop
 loop-less c = omega (arith, c .before .before .before .before .before .before .before .if1 .taken)
@@ -103,8 +145,7 @@ loop-again : tie.Need-loop-again Inv-loop μ-loop
 loop-again c =
     let a = c .before .before .before .before .before .before .before .before .before .before .before .before .before .before .before .before .before .before .args in
     let l = c .before .before .before .before .before .before .before .before .before .loop in
-    let source-next : a .source .rows - a .target .rows + l .r + 1 ≡ a .source .rows - a .target .rows + (l .r + 1) = omega arith in
-    (
+    let source-next : a .source .rows - a .target .rows + l .r + 1 ≡ a .source .rows - a .target .rows + (l .r + 1) = omega arith in (
       omega (arith, l .inv .0),
       omega (arith, c .before .before .before .before .before .before .before .if1 .taken),
       omega (arith, c .before .least2 .ensures, l .inv .2, row-next (a .source .width) (a .source .rows - a .target .rows + l .r), ap (rowStart (a .source .width)) source-next),
