@@ -16,8 +16,11 @@
 
 #include "../include/metsovary.h"
 
-enum { ROUNDS = 5, BLOCK = 64, MANY = 100, MAX_ORDER = 4000 };
+enum { BLOCK = 64, MAX_BLOCK = 200, MANY = 100, MAX_ORDER = 4000 };
 static const double ROUND_SECONDS = 0.02; /* a short call is repeated in a round until it has used this much */
+
+/* Other work on the machine slows single rounds, so that the least time wants many; large orders take long. */
+static int rounds(int order) { return order <= 1000 ? 15 : order <= 2000 ? 7 : 3; }
 
 static void die(const char *what, const char *why) {
     fprintf(stderr, "bench: %s: %s\n", what, why);
@@ -116,7 +119,7 @@ static void make_operands(int order) {
     length = (size_t)n * (size_t)(n + 1) / 2;
     original = values(length), matrix = values(length), full = values((size_t)n * (size_t)n);
     factor = values(length), blocked_factor = values(length);
-    right_sides = values(rhs_length(MANY)), solutions = values(rhs_length(MANY)), x = values(rhs_length(MANY)), work = values(block_work(BLOCK));
+    right_sides = values(rhs_length(MANY)), solutions = values(rhs_length(MANY)), x = values(rhs_length(MANY)), work = values(block_work(MAX_BLOCK));
     state = (uint64_t)n;
     size_t p = 0;
     for (int j = 0; j < n; j++)
@@ -241,6 +244,10 @@ typedef struct {
 
 static const subject subjects[] = {
     {"metsovary", "factor_blocked", BLOCK, set_blocked, factor_blocked},
+    {"metsovary", "factor_blocked_16", 16, set_blocked, factor_blocked},
+    {"metsovary", "factor_blocked_32", 32, set_blocked, factor_blocked},
+    {"metsovary", "factor_blocked_100", 100, set_blocked, factor_blocked},
+    {"metsovary", "factor_blocked_200", 200, set_blocked, factor_blocked},
     {"metsovary", "factor_plain", BLOCK, set_packed, factor_plain},
     {"reference", "dpptrf", 0, set_packed, dpptrf_of_reference},
     {"OpenBLAS", "dpptrf", 0, set_packed, dpptrf_of_openblas},
@@ -272,7 +279,7 @@ static void measure(int order, int count) {
     double least[ALL];
     for (int k = 0; k < count; k++) least[k] = INFINITY;
     make_operands(order);
-    for (int round = 0; round < ROUNDS; round++)
+    for (int round = 0; round < rounds(order); round++)
         for (int k = 0; k < count; k++) {
             const subject *s = &subjects[k];
             for (double used = 0; used < ROUND_SECONDS;) {
