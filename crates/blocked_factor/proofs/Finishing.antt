@@ -70,7 +70,7 @@ module _ (w s0 s : ℕ) (d : Float) (m : List Float) where
 -- ---- eight rows
 
 module _
-    (w r s0 s : ℕ) (at : ℕ → ℕ) (left : s0 ≤ s) (narrow : s < w) (below : w ≤ r)
+    (w r s0 s : ℕ) (at : ℕ → ℕ) (left : s0 ≤ s) (narrow : s < w) (low : s < r)
     (places : (k : ℕ) → k < 8 → at k ≡ rowStart w (r + k) + s0) where
   pub eight-inside : (k : ℕ) → k < 8 → at k + (s - s0) < rowStart w (r + 8)
   eight-inside k few = omega (arith, places k few, row-lt w (r + k) (r + 8) s (omega arith) (omega arith))
@@ -95,7 +95,7 @@ module _
         judged =
             ap (all finite) (sym (tabulate-of (λ k. columnQuotient w s0 s m d (r + k)) 8 quotients nan size value))
             ∙ ap (λ n. all finite (rowsOf w s0 s m d r n)) eight;
-        rows = λ r′ low high.
+        rows = λ r′ from to.
             let row : r + (r′ - r) ≡ r′ = omega arith in
             let few : r′ - r < 8 = omega arith in
             let place : at (r′ - r) + (s - s0) ≡ rowStart w r′ + s = omega (arith, places (r′ - r) few, ap (rowStart w) row) in

@@ -1,6 +1,5 @@
 // The blocked factor: block column by block column, each less the products of those before it, then finished column by column.
 ghost use mathlib.Core.Path.{_≡_};
-ghost use lib.Dec.{T};
 ghost use Prim.Native.Nat.{ℕ, _+_, _-_, _*_, _≤_, _<_};
 ghost use lib.ListN.{length, getD, replicate};
 ghost use lib.Ieee.{nan, binary64, div};
@@ -44,9 +43,9 @@ fn finish_row(part: &mut [f64], width: usize, r: usize, s0: usize, s: usize, roo
     binary64::is_finite(quotient)
 }
 
-// The places of column s in the eight rows from r on, below the triangle.
+// The places of column s in the eight rows from r on.
 fn row_places8(width: usize, r: usize, s: usize) -> [usize; 8]
-    requires { ⌜ (s < width) × (width ≤ r) × (r + 8 ≤ maxOrder) ⌝ }
+    requires { ⌜ (s < width) × (s ≤ r) × (r + 8 ≤ maxOrder) ⌝ }
     ensures { λ at. ⌜ ((k : ℕ) → k < 8 → getD at k 0 ≡ rowStart width (r + k) + s) ⌝ }
 {
     let mut places = [0; 8];
@@ -54,8 +53,8 @@ fn row_places8(width: usize, r: usize, s: usize) -> [usize; 8]
     let mut k = 0;
     while k < 8 {
         places[k] = at;
-        at += width;
         k += 1;
+        at += least(r + k, width);
     }
     places
 }
@@ -80,7 +79,7 @@ fn quotients8(part: &[f64], at: [usize; 8], y: usize, count: usize, root: f64) -
 
 // As `finish_row`, for the eight rows from r on at once.
 fn finish_rows8(part: &mut [f64], width: usize, r: usize, s0: usize, s: usize, root: f64) -> bool
-    requires { ⌜ (s0 ≤ s) × (s < width) × (width ≤ r) × (r + 8 ≤ maxOrder) × (rowStart width (r + 8) ≤ length (now part)) ⌝ }
+    requires { ⌜ (s0 ≤ s) × (s < width) × (s < r) × (r + 8 ≤ maxOrder) × (rowStart width (r + 8) ≤ length (now part)) ⌝ }
     ensures { λ finite. ⌜ RowsFinished width r (r + 8) s0 s root (now (part .entry)) finite (now (part .exit)) ⌝ }
 {
     let at = row_places8(width, r, s0);
@@ -91,20 +90,7 @@ fn finish_rows8(part: &mut [f64], width: usize, r: usize, s0: usize, s: usize, r
     calls::all_finite(&quotients)
 }
 
-// Whether eight rows from r on lie below the triangle.
-fn eight_fit(width: usize, rows: usize, r: usize) -> bool
-    ensures { λ fit. ⌜ (T fit → (width ≤ r) × (r + 8 ≤ rows)) ⌝ }
-{
-    if r < width {
-        return false;
-    }
-    if rows < r {
-        return false;
-    }
-    8 <= rows - r
-}
-
-// The rows under the diagonal of column s, eight at a time below the triangle. True where all are finite.
+// The rows under the diagonal of column s, eight at a time. True where all are finite.
 fn finish_rows(part: &mut [f64], width: usize, rows: usize, s0: usize, s: usize, root: f64) -> bool
     requires { ⌜ (s0 ≤ s) × (s < width) × (width ≤ rows) × (rows ≤ maxOrder) × (rowStart width rows ≤ length (now part)) ⌝ }
     ensures { λ r. ⌜ UnderFinished width rows s0 s root (now (part .entry)) r (now (part .exit)) ⌝ }
@@ -112,7 +98,7 @@ fn finish_rows(part: &mut [f64], width: usize, rows: usize, s0: usize, s: usize,
     let mut finite = true;
     let mut r = s + 1;
     while r < rows {
-        if eight_fit(width, rows, r) {
+        if 8 <= rows - r {
             let eight = finish_rows8(part, width, r, s0, s, root);
             finite = finite & eight;
             r += 8;

@@ -1,8 +1,7 @@
 -- `blocked_factor::finish_rows` meets its contract. Assumes nothing.
 use Prim.Native.Nat.{_+_, _-_, _≤_, _<_}
 use native.Mathlib.Omega.{arith}
-use mathlib.Core.Path.{_≡_, subst, sym}
-use lib.Dec.{T}
+use mathlib.Core.Path.{_≡_}
 use Rattle.blocked_factor.specs.BlockColumns.{RowsFinished}
 use Rattle.blocked_factor.proofs.BlockRows.{row-mono}
 use Rattle.blocked_factor.proofs.Finishing.{rows-none, rows-join, under-all}
@@ -21,47 +20,47 @@ add-r c = omega (arith, c .before .pre)
 loop-holds : tie.Need-loop-holds Inv-loop μ-loop
 loop-holds c = (omega arith, omega (arith, c .before .pre), rows-none _ _ _ _ _ _)
 
-eight-fit-requires : tie.Need-eight-fit-requires Inv-loop μ-loop
-eight-fit-requires c κs = tt
+sub-if1 : tie.Need-sub-if1 Inv-loop μ-loop
+sub-if1 c = omega (arith, c .loop-test .taken)
 
 finish-rows8-requires : tie.Need-finish-rows8-requires Inv-loop μ-loop
-finish-rows8-requires c κs =
-    let fit = c .before .before .eight-fit .ensures (subst T (sym (c .before .if1 .taken)) tt) in
-    omega (arith, c .before .before .before .before .before .before .pre, fit, c .before .before .before .before .loop .inv .2 .kept, row-mono (c .before .before .before .before .before .before .args .width) (c .before .before .before .before .loop .r + 8) (c .before .before .before .before .before .before .args .rows) (fit .1))
+finish-rows8-requires c κs = omega (arith, c .before .before .before .before .before .pre, c .before .if1 .taken, c .before .before .before .loop .inv .0, c .before .before .before .loop .inv .2 .kept, row-mono (c .before .before .before .before .before .args .width) (c .before .before .before .loop .r + 8) (c .before .before .before .before .before .args .rows) (omega (arith, c .before .if1 .taken)))
 
 add-r-2 : tie.Need-add-r-2 Inv-loop μ-loop
-add-r-2 c = omega (arith, c .before .before .before .before .before .before .before .before .before .pre, c .before .before .before .before .before .eight-fit .ensures (subst T (sym (c .before .before .before .before .if1 .taken)) tt))
+add-r-2 c = omega (arith, c .before .before .before .before .before .before .before .before .pre, c .before .before .before .before .if1 .taken)
 
 loop-less : tie.Need-loop-less Inv-loop μ-loop
-loop-less c = omega (arith, c .before .before .before .before .before .before .loop-test .taken)
+loop-less c = omega (arith, c .before .before .before .before .before .loop-test .taken)
 
 loop-again : tie.Need-loop-again Inv-loop μ-loop
 loop-again c =
-    let a = c .before .before .before .before .before .before .before .before .before .args in
-    let l = c .before .before .before .before .before .before .before .loop in (
+    let a = c .before .before .before .before .before .before .before .before .args in
+    let l = c .before .before .before .before .before .before .loop in (
       omega (arith, l .inv .0),
-      c .before .before .before .before .before .eight-fit .ensures (subst T (sym (c .before .before .before .before .if1 .taken)) tt) .1,
-      rows-join (a .width) (a .s + 1) (l .r) (a .s0) (a .s) (a .root) (a .part .now) (l .part) (l .finite) (l .inv .2) (omega arith) (omega (arith, c .before .before .before .before .before .before .before .before .before .pre)) (omega (arith, c .before .before .before .before .before .before .before .before .before .pre))
-          (l .r + 8) _ (c .before .before .finish-rows8 .result) (omega (arith, l .inv .0)) (omega arith) (c .before .before .finish-rows8 .ensures),
+      omega (arith, c .before .before .before .before .if1 .taken),
+      rows-join (a .width) (a .s + 1) (l .r) (a .s0) (a .s) (a .root) (a .part .now) (l .part) (l .finite) (l .inv .2) (omega arith)
+          (omega (arith, c .before .before .before .before .before .before .before .before .pre)) (omega (arith, c .before .before .before .before .before .before .before .before .pre)) (l .r + 8) _ (c .before .before .finish-rows8 .result) (omega (arith, l .inv .0)) (omega arith)
+          (c .before .before .finish-rows8 .ensures),
     )
 
 finish-row-requires : tie.Need-finish-row-requires Inv-loop μ-loop
-finish-row-requires c κs = omega (arith, c .before .before .before .before .before .before .pre, c .before .before .before .loop-test .taken, c .before .before .before .before .loop .inv .0, c .before .before .before .before .loop .inv .2 .kept, row-mono (c .before .before .before .before .before .before .args .width) (c .before .before .before .before .loop .r + 1) (c .before .before .before .before .before .before .args .rows) (omega (arith, c .before .before .before .loop-test .taken)))
+finish-row-requires c κs = omega (arith, c .before .before .before .before .before .pre, c .before .before .loop-test .taken, c .before .before .before .loop .inv .0, c .before .before .before .loop .inv .2 .kept, row-mono (c .before .before .before .before .before .args .width) (c .before .before .before .loop .r + 1) (c .before .before .before .before .before .args .rows) (omega (arith, c .before .before .loop-test .taken)))
 
 add-r-3 : tie.Need-add-r-3 Inv-loop μ-loop
-add-r-3 c = omega (arith, c .before .before .before .before .before .before .before .before .before .pre, c .before .before .before .before .before .before .loop-test .taken)
+add-r-3 c = omega (arith, c .before .before .before .before .before .before .before .before .pre, c .before .before .before .before .before .loop-test .taken)
 
 loop-less-2 : tie.Need-loop-less-2 Inv-loop μ-loop
-loop-less-2 c = omega (arith, c .before .before .before .before .before .before .loop-test .taken)
+loop-less-2 c = omega (arith, c .before .before .before .before .before .loop-test .taken)
 
 loop-again-2 : tie.Need-loop-again-2 Inv-loop μ-loop
 loop-again-2 c =
-    let a = c .before .before .before .before .before .before .before .before .before .args in
-    let l = c .before .before .before .before .before .before .before .loop in (
+    let a = c .before .before .before .before .before .before .before .before .args in
+    let l = c .before .before .before .before .before .before .loop in (
       omega (arith, l .inv .0),
-      omega (arith, c .before .before .before .before .before .before .loop-test .taken),
-      rows-join (a .width) (a .s + 1) (l .r) (a .s0) (a .s) (a .root) (a .part .now) (l .part) (l .finite) (l .inv .2) (omega arith) (omega (arith, c .before .before .before .before .before .before .before .before .before .pre)) (omega (arith, c .before .before .before .before .before .before .before .before .before .pre))
-          (l .r + 1) _ (c .before .before .finish-row .result) (omega (arith, l .inv .0)) (omega arith) (c .before .before .finish-row .ensures),
+      omega (arith, c .before .before .before .before .before .loop-test .taken),
+      rows-join (a .width) (a .s + 1) (l .r) (a .s0) (a .s) (a .root) (a .part .now) (l .part) (l .finite) (l .inv .2) (omega arith)
+          (omega (arith, c .before .before .before .before .before .before .before .before .pre)) (omega (arith, c .before .before .before .before .before .before .before .before .pre)) (l .r + 1) _ (c .before .before .finish-row .result) (omega (arith, l .inv .0)) (omega arith)
+          (c .before .before .finish-row .ensures),
     )
 
 same-length : tie.Need-same-length Inv-loop μ-loop
@@ -80,7 +79,7 @@ finish-rows-spec =
     μ-loop
     add-r
     loop-holds
-    eight-fit-requires
+    sub-if1
     finish-rows8-requires
     add-r-2
     loop-less

@@ -1,4 +1,5 @@
 -- `blocked_factor::row_places8` meets its contract. Assumes nothing.
+use borrow.Author.Needs.{needs}
 use Prim.Native.Nat.{_+_, _-_, _≤_}
 use native.Mathlib.Omega.{arith}
 use mathlib.Core.Path.{_≡_, refl, ap}
@@ -33,22 +34,28 @@ mul-places c = omega arith
 array-write-places : tie.Need-array-write-places Inv-loop μ-loop
 array-write-places c = omega arith
 
-add-at-2 : tie.Need-add-at-2 Inv-loop μ-loop
-add-at-2 c = omega (arith, c .before .before .before .pre, c .before .loop .inv .1, row-le-triangle (c .before .before .before .args .width) (c .before .before .before .args .r + c .before .loop .k), triangle-le (c .before .before .before .args .r + c .before .loop .k) (omega (arith, c .before .before .before .pre)))
-
 add-k : tie.Need-add-k Inv-loop μ-loop
 add-k c = omega arith
+
+add-least : tie.Need-add-least Inv-loop μ-loop
+add-least c = omega (arith, c .before .before .before .pre)
+
+least-requires : tie.Need-least-requires Inv-loop μ-loop
+least-requires c κs = search needs
+
+add-at-2 : tie.Need-add-at-2 Inv-loop μ-loop
+add-at-2 c = omega (arith, c .before .before .before .before .pre, c .least .ensures, c .before .before .loop .inv .1, row-le-triangle (c .before .before .before .before .args .width) (c .before .before .before .before .args .r + c .before .before .loop .k), triangle-le (c .before .before .before .before .args .r + c .before .before .loop .k) (omega (arith, c .before .before .before .before .pre)))
 
 loop-less : tie.Need-loop-less Inv-loop μ-loop
 loop-less c = omega arith
 
 loop-again : tie.Need-loop-again Inv-loop μ-loop
 loop-again c =
-    let a = c .before .before .before .args in
-    let l = c .before .loop in
+    let a = c .before .before .before .before .args in
+    let l = c .before .before .loop in
     let next : a .r + l .k + 1 ≡ a .r + (l .k + 1) = omega arith in (
       omega arith,
-      omega (arith, c .before .before .before .pre, l .inv .1, row-next (a .width) (a .r + l .k), ap (rowStart (a .width)) next),
+      omega (arith, c .least .ensures, l .inv .1, row-next (a .width) (a .r + l .k), ap (rowStart (a .width)) next),
       l .inv .2,
       stored-next 0 _ _ (l .k) (l .places) _ (omega arith) (l .inv .3) (l .inv .1),
     )
@@ -67,8 +74,10 @@ row-places8-spec =
     loop-holds
     mul-places
     array-write-places
-    add-at-2
     add-k
+    add-least
+    least-requires
+    add-at-2
     loop-less
     loop-again
     returns)
