@@ -24,7 +24,7 @@ use Rattle.calls.proofs.Columns.{products-same}
 use Rattle.kernels.specs.Kernels.{Filled}
 use Rattle.blocked_factor.specs.BlockColumns.{rowStart, PanelUpdated}
 use Rattle.blocked_factor.specs.BlockStages.{factorEntry, lessProducts, judgeColumn, Judged, ColumnsFactored}
-use Rattle.blocked_factor.specs.BlockSteps.{BlockAt, SpareRoom, rowOf, FactoredTo, BlockFactored, BlockDone, Saved}
+use Rattle.blocked_factor.specs.BlockSteps.{BlockAt, rowOf, FactoredTo, BlockFactored, BlockDone, Saved}
 use Rattle.blocked_factor.proofs.BlockRows.{row-lt}
 use Rattle.blocked_factor.proofs.EarlierBlocks.{block-end, block-before}
 
@@ -226,60 +226,6 @@ saved-next m work start k room saved j h =
 -- the kept values take at most the whole rows
 kept-le : (w h : ℕ) → w ≤ h → rowStart w h ≡ triangle w + (h - w) * w
 kept-le w h tall = omega (arith, place-in-block-row w h 0, row-start-under w h tall)
-
-square-le : (u : ℕ) → u ≤ u * u + 240
-square-le u = go (decLt u 1)
-  where
-    go : Dec (u < 1) → u ≤ u * u + 240
-    go (yes p) = omega arith
-    go (no p) = let one : 1 ≤ u = omega arith in omega (arith, mul-le-mul-right u one)
-
--- a panel of the block column's own earlier columns
-room-own : (c w d m : ℕ) → w ≤ m → 16 ≤ w → 16 * (w - 16) ≤ (c + (w + d)) * m - (triangle w + d * w)
-room-own c w d m narrow wide =
-    let rows : (w + d) * w ≤ (c + (w + d)) * m = mul-le-mul (omega arith) narrow in
-    let own : 32 * (w - 16) + w ≤ w * w = lanes (w - 16) (omega arith) in
-    omega (arith, triangle-exact w)
-  where
-    lanes : (u : ℕ) → w ≡ 16 + u → 32 * u + w ≤ w * w
-    lanes u e = rw e (omega (arith, square-le u))
-
--- and of an earlier block column
-room-earlier : (c w d b : ℕ) → b ≤ c → w ≤ b → 16 ≤ w → 16 * b ≤ (c + (w + d)) * b - (triangle w + d * w)
-room-earlier c w d b later narrow wide =
-    let one : 1 ≤ w = omega arith in
-    let sixteen : 16 ≤ c = omega arith in
-    let rows : (w + d) * w ≤ (w + d) * b = mul-le-mul-left (w + d) narrow in
-    omega (arith, triangle-exact w, mul-le-mul-right w one, mul-le-mul-right b sixteen)
-
-pub spare-room :
-    {n b c len : ℕ} (here : BlockAt n b c len) → SpareRoom n b c (blockWork n b - (blockStart n (c + width n b c) - blockStart n c))
-unfolding blockWork
-spare-room {n} {b} {c} {len} here =
-    record { earlier = λ later wide. earlier later wide; own = λ wide. own wide }
-  where
-    total : c + (width n b c + (n - c - width n b c)) ≡ n
-    total = omega (arith, width-le n b c, here .inside)
-
-    size : blockStart n (c + width n b c) - blockStart n c ≡ triangle (width n b c) + (n - c - width n b c) * width n b c
-    size = omega (arith, block-end n c (width n b c) (inside-le here), kept-le (width n b c) (n - c) (width-le n b c))
-
-    own : 16 ≤ width n b c → 16 * (width n b c - 16) ≤ n * min n b - (blockStart n (c + width n b c) - blockStart n c)
-    own wide =
-        let room : 16 * (width n b c - 16)
-        ≤ (c + (width n b c + (n - c - width n b c))) * min n b - (triangle (width n b c) + (n - c - width n b c) * width n b c) =
-        room-own c (width n b c) (n - c - width n b c) (min n b) (omega (arith, width-le n b c, width-le-block n b c)) wide
-        in
-        rw size (rw total at room)
-
-    earlier : 0 < c → 16 ≤ width n b c → 16 * b ≤ n * min n b - (blockStart n (c + width n b c) - blockStart n c)
-    earlier later wide =
-        let before : 0 + b ≤ c = block-before b 0 c (omega (arith, block-of-le b 0)) (here .first) later in
-        let least : min n b ≡ b = omega (arith, here .inside) in
-        let room : 16 * b ≤ (c + (width n b c + (n - c - width n b c))) * b - (triangle (width n b c) + (n - c - width n b c) * width n b c) =
-        room-earlier c (width n b c) (n - c - width n b c) b (omega arith) (width-le-block n b c) wide
-        in
-        rw (size, least) (rw total at room)
 
 pub restored :
     {n b c : ℕ} (m m₁ m₂ work : List Float) (answer : CallResult) (here : BlockAt n b c (length m)) → BlockFactored n b c m answer m₁ →

@@ -6,7 +6,9 @@ use native.Mathlib.Omega.{arith}
 use native.Mathlib.Decide.{decLt}
 use mathlib.Core.Path.{_≡_, refl, sym, ap, ap₂, _∙_}
 use mathlib.Core.Logic.{_≢_, _⊎_, inl, inr}
+use mathlib.Core.Bool.{Bool}
 use mathlib.Core.List.{List}
+use lib.Dec.{T}
 use lib.ListN.{length, getD, set, length-set}
 use lib.Seq.{getD-set-same, getD-set-other}
 use lib.Ieee.{Float, nan}
@@ -48,15 +50,15 @@ filled-lanes m m′ panel start lanes x y len count few loaded worked filled =
 
 -- by a packed panel
 pub filled-packed :
-    (m m′ panel : List Float) (start w first x y len count : ℕ) → len ≤ 16 → Packed panel m start w first count 16 →
+    (m m′ panel : List Float) (start w first x y len count : ℕ) → Packed panel m start w first count len →
     Filled nan y len (λ t. minusProducts (rowAt m x) (laneAt panel t) count (getD m (y + t) nan)) m m′ →
     Filled nan y len (λ t. minusProducts (rowAt m x) (rowAt m (start + rowStart w (first + t))) count (getD m (y + t) nan)) m m′
-filled-packed m m′ panel start w first x y len count few packed filled =
+filled-packed m m′ panel start w first x y len count packed filled =
     filled-same nan y len (λ t. minusProducts (rowAt m x) (laneAt panel t) count (getD m (y + t) nan))
     (λ t. minusProducts (rowAt m x) (rowAt m (start + rowStart w (first + t))) count (getD m (y + t) nan)) m m′
     (λ t h.
     products-same (rowAt m x) (rowAt m x) (laneAt panel t) (rowAt m (start + rowStart w (first + t))) count (getD m (y + t) nan)
-    (λ k below. refl) (λ k below. packed .lane t k (omega arith) below))
+    (λ k below. refl) (λ k below. packed .lane t k h below))
     filled
 
 -- ---- the source of a panel's products
@@ -105,9 +107,10 @@ module _ {len at w h sat sw sh s0 g count : ℕ} (source : Source len at w h sat
 
   -- what `pack` asks
   pub pack-ready :
-      (spare : ℕ) → g ≡ 16 → 16 * count ≤ spare →
-      ((16 * count ≤ spare) × (sh - h + s0 + 16 ≤ maxOrder + 1)) × ((t : ℕ) → t < 16 → sat + rowStart sw (sh - h + s0 + t) + count ≤ len)
-  pack-ready spare full room = (
+      (spare : ℕ) → g ≤ 16 → 16 * count ≤ spare →
+      ((16 * count ≤ spare) × (g ≤ 16) × (sh - h + s0 + g ≤ maxOrder + 1))
+      × ((t : ℕ) → t < g → sat + rowStart sw (sh - h + s0 + t) + count ≤ len)
+  pack-ready spare narrow room = (
     omega (arith, source .order, source .below, source .wide, source .tall),
     (λ t few.
         let row : sh - h + (s0 + t) ≡ sh - h + s0 + t = omega arith in
@@ -145,13 +148,13 @@ module _
 
   -- what `update_row` asks
   pub row-ready :
-      (panel : List Float) (y l : ℕ) → g ≤ 16 →
-      (g ≡ 16 → (16 * count ≤ length panel) × Packed panel m sat sw (sh - h + s0) count 16) →
+      (panel : List Float) (packed : Bool) (y l : ℕ) → g ≤ 16 →
+      (T packed → (16 * count ≤ length panel) × Packed panel m sat sw (sh - h + s0) count g) →
       y ≡ at + rowStart w r + s0 → l ≡ min g (r + 1 - s0) →
-      ((sat + rowStart sw (sh - h + r) + count ≤ y) × (y + l ≤ length m₁) × (sh - h + s0 + l ≤ maxOrder + 1) × (l ≤ g) × (g ≤ 16))
+      ((sat + rowStart sw (sh - h + r) + count ≤ y) × (y + l ≤ length m₁) × (sh - h + s0 + l ≤ maxOrder + 1) × (l ≤ 16))
       × (((t : ℕ) → t < l → sat + rowStart sw (sh - h + s0 + t) + count ≤ y)
-      × (g ≡ 16 → (16 * count ≤ length panel) × Packed panel m₁ sat sw (sh - h + s0) count 16))
-  row-ready panel y l narrow packed ey el = (
+      × (T packed → (16 * count ≤ length panel) × Packed panel m₁ sat sw (sh - h + s0) count l))
+  row-ready panel packed y l narrow ready ey el = (
     omega (arith, source-before source r r low (le-refl r) high, row-room source r low high, before .kept, source .order, source .below),
     (
       (λ t few.
@@ -161,15 +164,15 @@ module _
           in
           let same : rowStart sw (sh - h + (s0 + t)) ≡ rowStart sw (sh - h + s0 + t) = ap (rowStart sw) row in
           omega arith),
-      (λ whole. (
-        packed whole .0,
+      (λ it. (
+        ready it .0,
         record {
           lane = λ t k few p.
               let row : sh - h + (s0 + t) ≡ sh - h + s0 + t = omega arith in
               let kept : rowAt m₁ (sat + rowStart sw (sh - h + (s0 + t))) k ≡ rowAt m (sat + rowStart sw (sh - h + (s0 + t))) k =
               source-kept (s0 + t) k (omega arith) (omega (arith, source .wide, source .tall)) p
               in
-              packed whole .1 .lane t k few p ∙ sym (rw row at kept);
+              ready it .1 .lane t k (omega arith) p ∙ sym (rw row at kept);
         },
       )),
     ),

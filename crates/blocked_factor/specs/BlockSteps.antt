@@ -25,11 +25,6 @@ pub record BlockAt (n b c len : ℕ) : Type 0 where
   pub first : blockOf b c ≡ c
   pub size : len ≡ triangle n
 
--- room for a panel of the products of an earlier block column, and of the block column's own
-pub record SpareRoom (n b c spare : ℕ) : Type 0 where
-  pub earlier : 0 < c → 16 ≤ width n b c → 16 * b ≤ spare
-  pub own : 16 ≤ width n b c → 16 * (width n b c - 16) ≤ spare
-
 -- the first places of a work memory hold the values from place `start` on
 pub record Saved (start size : ℕ) (m work′ : List Float) : Type 0 where
   pub value : (k : ℕ) → k < size → getD work′ k nan ≡ getD m (start + k) nan

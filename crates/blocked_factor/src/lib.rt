@@ -11,7 +11,7 @@ ghost use Rattle.calls.specs.Calls.{DoneAs, factorize};
 ghost use Rattle.kernels.specs.Kernels.{Filled};
 ghost use Rattle.blocked_factor.specs.BlockColumns.{rowStart, rowAt, lessPanel, columnQuotient, ColumnFinished, RowsFinished, UnderFinished, PanelUpdated};
 ghost use Rattle.blocked_factor.specs.BlockStages.{PanelFinished, ColumnsFactored};
-ghost use Rattle.blocked_factor.specs.BlockSteps.{BlockAt, SpareRoom, BlockFactored, BlockDone, Saved, Sized, BlocksDone, rowOf};
+ghost use Rattle.blocked_factor.specs.BlockSteps.{BlockAt, BlockFactored, BlockDone, Saved, Sized, BlocksDone, rowOf};
 
 mod kernel;
 mod update;
@@ -185,7 +185,7 @@ fn factor_panel(
     g: usize,
 ) -> CallResult
     requires { ⌜ (s0 + g ≤ width) × (width ≤ rows) × (c + rows ≤ maxOrder) × (rowStart width rows ≤ length (now part)) ⌝ }
-    requires { ⌜ (g ≤ 16) × (g ≡ 16 → 16 * s0 ≤ length (now spare)) ⌝ }
+    requires { ⌜ g ≤ 16 ⌝ }
     ensures { λ r. ⌜ ColumnsFactored c width rows s0 (s0 + g) (now (part .entry)) r (now (part .exit)) ⌝ }
 {
     let column = BlockColumn {
@@ -206,7 +206,6 @@ fn factor_block(
     rows: usize,
 ) -> CallResult
     requires { ⌜ (width ≤ rows) × (c + rows ≤ maxOrder) × (rowStart width rows ≤ length (now part)) ⌝ }
-    requires { ⌜ (16 ≤ width → 16 * (width - 16) ≤ length (now spare)) ⌝ }
     ensures { λ r. ⌜ ColumnsFactored c width rows 0 width (now (part .entry)) r (now (part .exit)) ⌝ }
 {
     let mut s0 = 0;
@@ -224,7 +223,6 @@ fn factor_block(
 // The block column that begins with column c, less the products of all block columns before it.
 fn update_by_all(m: &mut [f64], spare: &mut [f64], shape: Shape, c: usize)
     requires { ⌜ BlockAt (shape .order) (shape .block) c (length (now m)) ⌝ }
-    requires { ⌜ (0 < c → 16 ≤ width (shape .order) (shape .block) c → 16 * shape .block ≤ length (now spare)) ⌝ }
     ensures { λ r.
         ⌜ PanelUpdated (blockStart (shape .order) c) (width (shape .order) (shape .block) c) (shape .order - c) 0
         (width (shape .order) (shape .block) c) (rowOf (shape .order) (shape .block) c (now (m .entry))) c (now (m .entry)) (now (m .exit)) ⌝ }
@@ -251,7 +249,6 @@ fn update_by_all(m: &mut [f64], spare: &mut [f64], shape: Shape, c: usize)
 // The block column that begins with column c, finished up to its first refused column; it is worked on as a part of the memory from its start on.
 fn factor_part(m: &mut [f64], spare: &mut [f64], shape: Shape, c: usize) -> CallResult
     requires { ⌜ BlockAt (shape .order) (shape .block) c (length (now m)) ⌝ }
-    requires { ⌜ SpareRoom (shape .order) (shape .block) c (length (now spare)) ⌝ }
     ensures { λ r. ⌜ BlockFactored (shape .order) (shape .block) c (now (m .entry)) r (now (m .exit)) ⌝ }
 {
     update_by_all(m, spare, shape, c);
@@ -278,7 +275,7 @@ fn restore(m: &mut [f64], work: &[f64], start: usize, size: usize)
 // As `factor_part`, with the work memory past the kept entry values as spare.
 fn factor_kept(m: &mut [f64], work: &mut [f64], shape: Shape, c: usize, size: usize) -> CallResult
     requires { ⌜ BlockAt (shape .order) (shape .block) c (length (now m)) ⌝ }
-    requires { ⌜ (size ≤ length (now work)) × SpareRoom (shape .order) (shape .block) c (length (now work) - size) ⌝ }
+    requires { ⌜ size ≤ length (now work) ⌝ }
     ensures { λ r. ⌜ BlockFactored (shape .order) (shape .block) c (now (m .entry)) r (now (m .exit)) ⌝ }
     ensures { λ r. ⌜ ((p : ℕ) → p < size → getD (now (work .exit)) p nan ≡ getD (now (work .entry)) p nan) ⌝ }
 {

@@ -2,6 +2,7 @@
 // earlier columns, are subtracted.
 ghost use mathlib.Core.Path.{_≡_};
 ghost use Prim.Native.Nat.{ℕ, _+_, _-_, _*_, _≤_, _<_, min};
+ghost use lib.Dec.{T};
 ghost use lib.ListN.{length, getD};
 ghost use lib.Ieee.{nan};
 ghost use Rattle.shape.specs.Bounds.{maxOrder};
@@ -59,37 +60,37 @@ fn update_entries(
     }
 }
 
-// The rows of the source from row `first` on, as the lanes of a panel.
-fn pack(panel: &mut [f64], m: &[f64], source: BlockColumn, first: usize, count: usize)
-    requires { ⌜ (16 * count ≤ length (now panel)) × (first + 16 ≤ maxOrder + 1) ⌝ }
-    requires { ⌜ ((t : ℕ) → t < 16 → source .start + rowStart (source .width) (first + t) + count ≤ length (now m)) ⌝ }
-    ensures { λ r. ⌜ Packed (now (panel .exit)) (now (m .entry)) (source .start) (source .width) first count 16 ⌝ }
+// The g rows of the source from row `first` on, as the lanes of a panel.
+fn pack(panel: &mut [f64], m: &[f64], source: BlockColumn, first: usize, g: usize, count: usize)
+    requires { ⌜ (16 * count ≤ length (now panel)) × (g ≤ 16) × (first + g ≤ maxOrder + 1) ⌝ }
+    requires { ⌜ ((t : ℕ) → t < g → source .start + rowStart (source .width) (first + t) + count ≤ length (now m)) ⌝ }
+    ensures { λ r. ⌜ Packed (now (panel .exit)) (now (m .entry)) (source .start) (source .width) first count g ⌝ }
 {
     let start = source.start;
     let width = source.width;
     let mut t = 0;
-    while t < 16 {
+    while t < g {
         let row = start + Shape::place_in_block(width, first + t, 0);
         pack_lane(panel, m, row, t, count);
         t += 1;
     }
 }
 
-// As `update_entries`; by the packed panel where the panel has 16 columns, of which the row has the first len.
+// As `update_entries`; by the panel where the source's rows are packed there.
 fn update_row(
     m: &mut [f64],
     panel: &[f64],
+    packed: bool,
     source: BlockColumn,
     first: usize,
-    g: usize,
     x: usize,
     y: usize,
     len: usize,
     count: usize,
 )
-    requires { ⌜ (x + count ≤ y) × (y + len ≤ length (now m)) × (first + len ≤ maxOrder + 1) × (len ≤ g) × (g ≤ 16) ⌝ }
+    requires { ⌜ (x + count ≤ y) × (y + len ≤ length (now m)) × (first + len ≤ maxOrder + 1) × (len ≤ 16) ⌝ }
     requires { ⌜ ((t : ℕ) → t < len → source .start + rowStart (source .width) (first + t) + count ≤ y) ⌝ }
-    requires { ⌜ (g ≡ 16 → (16 * count ≤ length (now panel)) × Packed (now panel) (now m) (source .start) (source .width) first count 16) ⌝ }
+    requires { ⌜ (T packed → (16 * count ≤ length (now panel)) × Packed (now panel) (now m) (source .start) (source .width) first count len) ⌝ }
     ensures { λ r.
         ⌜ Filled nan y len
         (λ t.
@@ -97,10 +98,12 @@ fn update_row(
         (getD (now (m .entry)) (y + t) nan))
         (now (m .entry)) (now (m .exit)) ⌝ }
 {
-    if len == 16 {
-        update16(m, panel, x, y, count);
-    } else if g == 16 {
-        update_part16(m, panel, x, y, len, count);
+    if packed {
+        if len == 16 {
+            update16(m, panel, x, y, count);
+        } else {
+            update_part16(m, panel, x, y, len, count);
+        }
     } else {
         update_entries(m, source, first, x, y, len, count);
     }
@@ -110,6 +113,7 @@ fn update_row(
 fn update_rows(
     m: &mut [f64],
     panel: &[f64],
+    packed: bool,
     target: BlockColumn,
     source: BlockColumn,
     s0: usize,
@@ -118,9 +122,9 @@ fn update_rows(
 )
     requires { ⌜ Source (length (now m)) (target .start) (target .width) (target .rows) (source .start) (source .width) (source .rows) s0 g count ⌝ }
     requires { ⌜ (g ≤ 16)
-        × (g ≡ 16 →
+        × (T packed →
         (16 * count ≤ length (now panel))
-        × Packed (now panel) (now m) (source .start) (source .width) (source .rows - target .rows + s0) count 16) ⌝ }
+        × Packed (now panel) (now m) (source .start) (source .width) (source .rows - target .rows + s0) count g) ⌝ }
     ensures { λ r.
         ⌜ PanelUpdated (target .start) (target .width) (target .rows) s0 g
         (sourceAt (now (m .entry)) (source .start) (source .width) (source .rows - target .rows)) count (now (m .entry)) (now (m .exit)) ⌝ }
@@ -132,14 +136,14 @@ fn update_rows(
     let mut r = s0;
     while r < target.rows {
         let len = least(g, r + 1 - s0);
-        update_row(m, panel, source, first, g, x, y, len, count);
+        update_row(m, panel, packed, source, first, x, y, len, count);
         r += 1;
         x += least(above + r, source.width);
         y += least(r, target.width);
     }
 }
 
-// The g columns from s0 on, less `count` products each; `spare` is overwritten.
+// The g columns from s0 on, less `count` products each; `spare` is overwritten, and serves as the panel where it is long enough.
 pub fn update_panel(
     m: &mut [f64],
     spare: &mut [f64],
@@ -150,17 +154,17 @@ pub fn update_panel(
     count: usize,
 )
     requires { ⌜ Source (length (now m)) (target .start) (target .width) (target .rows) (source .start) (source .width) (source .rows) s0 g count ⌝ }
-    requires { ⌜ (g ≤ 16) × (g ≡ 16 → 16 * count ≤ length (now spare)) ⌝ }
+    requires { ⌜ g ≤ 16 ⌝ }
     ensures { λ r.
         ⌜ PanelUpdated (target .start) (target .width) (target .rows) s0 g
         (sourceAt (now (m .entry)) (source .start) (source .width) (source .rows - target .rows)) count (now (m .entry)) (now (m .exit)) ⌝ }
 {
-    if g == 16 {
+    if 16 * count <= spare.len() {
         let first = source.rows - target.rows + s0;
-        pack(spare, m, source, first, count);
-        update_rows(m, spare, target, source, s0, 16, count);
+        pack(spare, m, source, first, g, count);
+        update_rows(m, spare, true, target, source, s0, g, count);
     } else {
-        update_rows(m, spare, target, source, s0, g, count);
+        update_rows(m, spare, false, target, source, s0, g, count);
     }
 }
 
@@ -174,7 +178,6 @@ pub fn update_block(
 )
     requires { ⌜ Source (length (now m)) (target .start) (target .width) (target .rows) (source .start) (source .width) (source .rows) 0
         (target .width) count ⌝ }
-    requires { ⌜ (16 ≤ target .width → 16 * count ≤ length (now spare)) ⌝ }
     ensures { λ r.
         ⌜ PanelUpdated (target .start) (target .width) (target .rows) 0 (target .width)
         (sourceAt (now (m .entry)) (source .start) (source .width) (source .rows - target .rows)) count (now (m .entry)) (now (m .exit)) ⌝ }

@@ -26,11 +26,8 @@ least-requires c κs = search needs
 
 factor-panel-requires : tie.Need-factor-panel-requires Inv-loop μ-loop
 factor-panel-requires c κs = (
-  omega (arith, c .before .before .before .before .before .before .before .pre .0, c .before .before .least .ensures, c .before .before .before .loop-test .taken, c .before .before .before .before .loop .inv .2 .kept),
-  (
-    omega (arith, c .before .before .least .ensures),
-    (λ full. omega (arith, c .before .before .before .before .before .before .before .pre .1 (omega (arith, c .before .before .least .ensures, c .before .before .before .loop-test .taken)), c .before .before .before .before .loop .inv .1, c .before .before .least .ensures, c .before .before .before .loop-test .taken)),
-  ),
+  omega (arith, c .before .before .before .before .before .before .before .pre, c .before .before .least .ensures, c .before .before .before .loop-test .taken, c .before .before .before .before .loop .inv .2 .kept),
+  omega (arith, c .before .before .least .ensures),
 )
 
 accepted-requires : tie.Need-accepted-requires Inv-loop μ-loop
@@ -51,7 +48,7 @@ returns c =
     (refused-of (c .before .accepted .result) (c .before .before .before .before .before .before .factor-panel .result) (c .before .accepted .ensures) (c .if1 .taken))
 
 add-s0 : tie.Need-add-s0 Inv-loop μ-loop
-add-s0 c = omega (arith, c .before .before .before .before .before .before .before .before .before .before .before .before .before .before .pre .0, c .before .before .before .before .before .before .before .before .before .least .ensures, c .before .before .before .before .before .before .before .before .before .before .loop-test .taken)
+add-s0 c = omega (arith, c .before .before .before .before .before .before .before .before .before .before .before .before .before .before .pre, c .before .before .before .before .before .before .before .before .before .least .ensures, c .before .before .before .before .before .before .before .before .before .before .loop-test .taken)
 
 loop-less : tie.Need-loop-less Inv-loop μ-loop
 loop-less c = omega (arith, c .before .before .before .before .before .before .before .before .before .least .ensures, c .before .before .before .before .before .before .before .before .before .before .loop-test .taken)

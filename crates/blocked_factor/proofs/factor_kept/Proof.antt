@@ -1,5 +1,5 @@
 -- `blocked_factor::factor_kept` meets its contract. Assumes nothing.
-use Rattle.blocked_factor.proofs.BlockParts.{part-length, whole-before}
+use Rattle.blocked_factor.proofs.BlockParts.{whole-before}
 use borrow.Author.Needs.{needs}
 use Rattle.blocked_factor.proofs.factor_kept.Statement.{statement}
 use Rattle.blocked_factor.proofs.factor_kept.Tie as tie
@@ -18,8 +18,7 @@ part-factor-part-end c = search needs
 
 factor-part-requires : tie.Need-factor-part-requires
 factor-part-requires c κs =
-    let a = c .before .before .before .before .args in
-    (c .before .before .before .before .pre .0, rw (part-length (a .work .now) (a .size)) (c .before .before .before .before .pre .1 .1))
+    c .before .before .before .before .pre .0
 
 same-length : tie.Need-same-length
 same-length c = search needs
@@ -30,7 +29,7 @@ same-length-2 c = search needs
 returns : tie.Need-returns
 returns c =
     let a = c .before .before .before .before .before .before .before .before .before .args in
-    (c .before .before .before .before .factor-part .ensures, (λ p low. whole-before (a .work .now) _ (a .size) p (c .before .before .before .before .before .before .before .before .before .pre .1 .0) low))
+    (c .before .before .before .before .factor-part .ensures, (λ p low. whole-before (a .work .now) _ (a .size) p (c .before .before .before .before .before .before .before .before .before .pre .1) low))
 
 pub factor-kept-spec : {M : Type 1} → statement M
 factor-kept-spec =

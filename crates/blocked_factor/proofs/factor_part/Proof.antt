@@ -20,13 +20,13 @@ block-width-requires : tie.Need-block-width-requires
 block-width-requires c κs = search needs
 
 mul-factor-block : tie.Need-mul-factor-block
-mul-factor-block c = omega (arith, c .before .block-start .ensures, block-room (c .before .before .before .before .before .before .before .before .before .before .before .pre .0), c .before .before .before .before .before .before .before .before .before .before .before .good)
+mul-factor-block c = omega (arith, c .before .block-start .ensures, block-room (c .before .before .before .before .before .before .before .before .before .before .before .pre), c .before .before .before .before .before .before .before .before .before .before .before .good)
 
 sub-factor-block : tie.Need-sub-factor-block
-sub-factor-block c = omega (arith, c .before .block-start .ensures, block-room (c .before .before .before .before .before .before .before .before .before .before .before .pre .0), c .before .before .before .before .before .before .update-by-all .ensures .kept)
+sub-factor-block c = omega (arith, c .before .block-start .ensures, block-room (c .before .before .before .before .before .before .before .before .before .before .before .pre), c .before .before .before .before .before .before .update-by-all .ensures .kept)
 
 part-factor-block-start : tie.Need-part-factor-block-start
-part-factor-block-start c = omega (arith, c .before .block-start .ensures, block-room (c .before .before .before .before .before .before .before .before .before .before .before .pre .0), c .before .before .before .before .before .before .update-by-all .ensures .kept)
+part-factor-block-start c = omega (arith, c .before .block-start .ensures, block-room (c .before .before .before .before .before .before .before .before .before .before .before .pre), c .before .before .before .before .before .before .update-by-all .ensures .kept)
 
 part-factor-block-end : tie.Need-part-factor-block-end
 part-factor-block-end c = search needs
@@ -39,12 +39,9 @@ factor-block-requires c κs =
     let a = c .before .before .before .before .before .before .before .before .before .before .before .before .before .before .args in
     let m = c .before .before .before .before .before .before .before .before .before .update-by-all .last .0 in
     rw (c .before .before .before .before .block-start .ensures, c .before .before .before .block-width .ensures) (
-      (
-        width-le (a .shape .order) (a .shape .block) (a .c),
-        omega (arith, c .before .before .before .before .before .before .before .before .before .before .before .before .before .before .pre .0 .order, c .before .before .before .before .before .before .before .before .before .before .before .before .before .before .pre .0 .inside),
-        omega (arith, part-length m (blockStart (a .shape .order) (a .c)), block-room (c .before .before .before .before .before .before .before .before .before .before .before .before .before .before .pre .0), c .before .before .before .before .before .before .before .before .before .update-by-all .ensures .kept),
-      ),
-      (λ wide. omega (arith, c .before .before .before .before .before .before .before .before .before .before .before .before .before .before .pre .1 .own wide, c .before .before .before .before .before .before .before .before .before .update-by-all .kept .1 .0)),
+      width-le (a .shape .order) (a .shape .block) (a .c),
+      omega (arith, c .before .before .before .before .before .before .before .before .before .before .before .before .before .before .pre .order, c .before .before .before .before .before .before .before .before .before .before .before .before .before .before .pre .inside),
+      omega (arith, part-length m (blockStart (a .shape .order) (a .c)), block-room (c .before .before .before .before .before .before .before .before .before .before .before .before .before .before .pre), c .before .before .before .before .before .before .before .before .before .update-by-all .ensures .kept),
     )
 
 same-length : tie.Need-same-length
@@ -57,9 +54,9 @@ returns : tie.Need-returns
 returns c =
     let a = c .before .before .before .before .before .before .before .before .before .before .before .before .before .before .before .before .before .before .before .args in
     let m = c .before .before .before .before .before .before .before .before .before .before .before .before .before .before .update-by-all .last .0 in
-    let room : blockStart (a .shape .order) (a .c) ≤ length m = omega (arith, block-room (c .before .before .before .before .before .before .before .before .before .before .before .before .before .before .before .before .before .before .before .pre .0), c .before .before .before .before .before .before .before .before .before .before .before .before .before .before .update-by-all .ensures .kept) in
+    let room : blockStart (a .shape .order) (a .c) ≤ length m = omega (arith, block-room (c .before .before .before .before .before .before .before .before .before .before .before .before .before .before .before .before .before .before .before .pre), c .before .before .before .before .before .before .before .before .before .before .before .before .before .before .update-by-all .ensures .kept) in
     rw (c .before .before .before .before .before .before .before .before .before .block-start .ensures, whole-put m (c .before .before .before .before .factor-block .last .0) (blockStart (a .shape .order) (a .c)) room)
-    (block-factored (a .m .now) m (c .before .before .before .before .factor-block .last .0) (c .before .before .before .before .factor-block .result) (c .before .before .before .before .before .before .before .before .before .before .before .before .before .before .before .before .before .before .before .pre .0) (c .before .before .before .before .before .before .before .before .before .before .before .before .before .before .update-by-all .ensures)
+    (block-factored (a .m .now) m (c .before .before .before .before .factor-block .last .0) (c .before .before .before .before .factor-block .result) (c .before .before .before .before .before .before .before .before .before .before .before .before .before .before .before .before .before .before .before .pre) (c .before .before .before .before .before .before .before .before .before .before .before .before .before .before .update-by-all .ensures)
     (rw (c .before .before .before .before .before .before .before .before .before .block-start .ensures, c .before .before .before .before .before .before .before .before .block-width .ensures) at (c .before .before .before .before .factor-block .ensures)))
 
 pub factor-part-spec : {M : Type 1} → statement M

@@ -5,7 +5,7 @@ use mathlib.Core.Path.{ap, _∙_}
 use Rattle.shape.specs.Places.{blockStart, width}
 use Rattle.calls.proofs.Judging.{accepted-of, refused-of}
 use Rattle.blocked_factor.proofs.EarlierBlocks.{block-end}
-use Rattle.blocked_factor.proofs.BlockParts.{inside-le, block-room, spare-room, size-le, done-accepted, done-refused}
+use Rattle.blocked_factor.proofs.BlockParts.{inside-le, block-room, size-le, done-accepted, done-refused}
 use borrow.Author.Needs.{needs}
 use Rattle.blocked_factor.proofs.factor_step.Statement.{statement}
 use Rattle.blocked_factor.proofs.factor_step.Tie as tie
@@ -37,10 +37,7 @@ factor-kept-requires c κs =
     let a = c .before .before .before .before .before .before .before .before .before .before .before .before .args in
     let end = c .before .before .before .before .before .before .before .block-start2 .ensures ∙ ap (λ (w : ℕ). blockStart (a .shape .order) (a .c + w)) (c .before .before .before .before .before .before .before .before .block-width .ensures) in (
       c .before .before .before .before .before .before .before .before .before .before .before .before .pre .0,
-      (
-        omega (arith, c .before .before .before .before .save .kept .1 .0, c .before .before .before .before .before .before .before .before .before .before .before .before .pre .1, size-le (c .before .before .before .before .before .before .before .before .before .before .before .before .pre .0), c .before .before .before .before .before .before .before .before .before .block-start .ensures, end),
-        rw (c .before .before .before .before .before .before .before .before .before .block-start .ensures, end, c .before .before .before .before .save .kept .1 .0, c .before .before .before .before .before .before .before .before .before .before .before .before .pre .1) (spare-room (c .before .before .before .before .before .before .before .before .before .before .before .before .pre .0)),
-      ),
+      omega (arith, c .before .before .before .before .save .kept .1 .0, c .before .before .before .before .before .before .before .before .before .before .before .before .pre .1, size-le (c .before .before .before .before .before .before .before .before .before .before .before .before .pre .0), c .before .before .before .before .before .before .before .before .before .block-start .ensures, end),
     )
 
 accepted-requires : tie.Need-accepted-requires

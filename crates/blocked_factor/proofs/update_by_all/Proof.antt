@@ -18,43 +18,43 @@ abbrev μ-loop : tie.MeasureT-loop
 μ-loop m₀ spare₀ shape c order block target k₀ m spare k = c - k
 
 block-start-requires : tie.Need-block-start-requires Inv-loop μ-loop
-block-start-requires c κs = omega (arith, c .before .before .pre .0 .order, c .before .before .pre .0 .inside)
+block-start-requires c κs = omega (arith, c .before .before .pre .order, c .before .before .pre .inside)
 
 block-width-requires : tie.Need-block-width-requires Inv-loop μ-loop
-block-width-requires c κs = omega (arith, c .before .before .before .pre .0 .inside)
+block-width-requires c κs = omega (arith, c .before .before .before .pre .inside)
 
 sub-t12 : tie.Need-sub-t12 Inv-loop μ-loop
-sub-t12 c = omega (arith, c .before .before .before .before .pre .0 .inside)
+sub-t12 c = omega (arith, c .before .before .before .before .pre .inside)
 
 loop-holds : tie.Need-loop-holds Inv-loop μ-loop
 loop-holds c = (omega arith, omega (arith, block-of-le (c .before .before .before .before .args .shape .block) 0), refl, earlier-none _ _ _ _ _ _)
 
 block-start-requires-2 : tie.Need-block-start-requires-2 Inv-loop μ-loop
-block-start-requires-2 c κs = omega (arith, c .before .before .before .before .before .before .pre .0 .order, c .before .before .before .before .before .before .pre .0 .inside, c .loop-test .taken)
+block-start-requires-2 c κs = omega (arith, c .before .before .before .before .before .before .pre .order, c .before .before .before .before .before .before .pre .inside, c .loop-test .taken)
 
 sub-t15 : tie.Need-sub-t15 Inv-loop μ-loop
-sub-t15 c = omega (arith, c .before .before .before .before .before .before .before .pre .0 .inside, c .before .loop-test .taken)
+sub-t15 c = omega (arith, c .before .before .before .before .before .before .before .pre .inside, c .before .loop-test .taken)
 
 update-block-requires : tie.Need-update-block-requires Inv-loop μ-loop
 update-block-requires c κs =
     let l = c .before .before .before .before .loop in
-    rw (c .before .before .before .before .before .before .block-start .ensures, c .before .before .before .before .before .block-width .ensures, c .before .before .block-start2 .ensures, l .inv .3 .kept, l .inv .2)
-    (earlier-source (c .before .before .before .before .before .before .before .before .before .pre .0) (l .k) (l .inv .1) (c .before .before .before .loop-test .taken), (λ wide. c .before .before .before .before .before .before .before .before .before .pre .1 (omega (arith, c .before .before .before .loop-test .taken)) wide))
+    rw (c .before .before .before .before .before .before .block-start .ensures, c .before .before .before .before .before .block-width .ensures, c .before .before .block-start2 .ensures, l .inv .3 .kept)
+    (earlier-source (c .before .before .before .before .before .before .before .before .before .pre) (l .k) (l .inv .1) (c .before .before .before .loop-test .taken))
 
 add-k : tie.Need-add-k Inv-loop μ-loop
-add-k c = omega (arith, c .before .before .before .before .before .before .before .before .before .before .before .before .before .before .pre .0 .order, c .before .before .before .before .before .before .before .before .before .before .before .before .before .before .pre .0 .inside, next-le (c .before .before .before .before .before .before .before .before .before .before .before .before .before .before .pre .0) (c .before .before .before .before .before .before .before .before .before .loop .k) (c .before .before .before .before .before .before .before .before .before .loop .inv .1) (c .before .before .before .before .before .before .before .before .loop-test .taken))
+add-k c = omega (arith, c .before .before .before .before .before .before .before .before .before .before .before .before .before .before .pre .order, c .before .before .before .before .before .before .before .before .before .before .before .before .before .before .pre .inside, next-le (c .before .before .before .before .before .before .before .before .before .before .before .before .before .before .pre) (c .before .before .before .before .before .before .before .before .before .loop .k) (c .before .before .before .before .before .before .before .before .before .loop .inv .1) (c .before .before .before .before .before .before .before .before .loop-test .taken))
 
 loop-less : tie.Need-loop-less Inv-loop μ-loop
-loop-less c = omega (arith, c .before .before .before .before .before .before .before .before .before .before .before .before .before .before .pre .0 .block, c .before .before .before .before .before .before .before .before .loop-test .taken)
+loop-less c = omega (arith, c .before .before .before .before .before .before .before .before .before .before .before .before .before .before .pre .block, c .before .before .before .before .before .before .before .before .loop-test .taken)
 
 loop-again : tie.Need-loop-again Inv-loop μ-loop
 loop-again c =
     let a = c .before .before .before .before .before .before .before .before .before .before .before .before .before .before .args in
     let l = c .before .before .before .before .before .before .before .before .before .loop in (
-      next-le (c .before .before .before .before .before .before .before .before .before .before .before .before .before .before .pre .0) (l .k) (l .inv .1) (c .before .before .before .before .before .before .before .before .loop-test .taken),
-      block-of-next (a .shape .block) (l .k) (c .before .before .before .before .before .before .before .before .before .before .before .before .before .before .pre .0 .block) (l .inv .1),
+      next-le (c .before .before .before .before .before .before .before .before .before .before .before .before .before .before .pre) (l .k) (l .inv .1) (c .before .before .before .before .before .before .before .before .loop-test .taken),
+      block-of-next (a .shape .block) (l .k) (c .before .before .before .before .before .before .before .before .before .before .before .before .before .before .pre .block) (l .inv .1),
       (c .before .before .before .before .update-block .kept .1 .0 ∙ l .inv .2),
-      earlier-next (c .before .before .before .before .before .before .before .before .before .before .before .before .before .before .pre .0) (l .k) (l .inv .1) (c .before .before .before .before .before .before .before .before .loop-test .taken) (a .m .now) (l .m) _ refl (l .inv .3)
+      earlier-next (c .before .before .before .before .before .before .before .before .before .before .before .before .before .before .pre) (l .k) (l .inv .1) (c .before .before .before .before .before .before .before .before .loop-test .taken) (a .m .now) (l .m) _ refl (l .inv .3)
           (rw (c .before .before .before .before .before .before .before .before .before .before .before .block-start .ensures, c .before .before .before .before .before .before .before .before .before .before .block-width .ensures, c .before .before .before .before .before .before .before .block-start2 .ensures) at (c .before .before .before .before .update-block .ensures)),
     )
 

@@ -9,10 +9,10 @@ use Rattle.blocked_factor.proofs.update.pack.Statement.{statement}
 use Rattle.blocked_factor.proofs.update.pack.Tie as tie
 
 abbrev Inv-loop : tie.InvT-loop
-Inv-loop panel₀ m first count start width t₀ panel t = (t ≤ 16) × (length panel ≡ length panel₀) × Packed panel m start width first count t
+Inv-loop panel₀ m first g count start width t₀ panel t = (t ≤ g) × (length panel ≡ length panel₀) × Packed panel m start width first count t
 
 abbrev μ-loop : tie.MeasureT-loop
-μ-loop panel₀ m first count start width t₀ panel t = 16 - t
+μ-loop panel₀ m first g count start width t₀ panel t = g - t
 
 loop-holds : tie.Need-loop-holds Inv-loop μ-loop
 loop-holds c = (omega arith, refl, packed-none _ _ _ _ _ _)
@@ -41,7 +41,7 @@ loop-again c =
     let l = c .before .before .before .before .before .before .loop in (
       omega arith,
       omega (arith, c .before .before .pack-lane .ensures .kept),
-      packed-next (l .panel) _ (a .m .now) (a .source .start) (a .source .width) (a .first) (a .count) (l .t) (l .inv .2) (c .before .before .before .before .before .loop-test .taken) (rw (c .before .before .before .before .place-in-block .ensures) at (c .before .before .pack-lane .ensures)),
+      packed-next (l .panel) _ (a .m .now) (a .source .start) (a .source .width) (a .first) (a .count) (l .t) (l .inv .2) (omega (arith, c .before .before .before .before .before .before .before .before .before .pre .0)) (rw (c .before .before .before .before .place-in-block .ensures) at (c .before .before .pack-lane .ensures)),
     )
 
 same-length : tie.Need-same-length Inv-loop μ-loop
@@ -49,7 +49,7 @@ same-length c = c .before .loop .inv .1
 
 returns : tie.Need-returns Inv-loop μ-loop
 returns c =
-    let e : c .before .loop .t ≡ 16 = omega arith in
+    let e : c .before .loop .t ≡ c .before .before .before .before .args .g = omega arith in
     rw e at (c .before .loop .inv .2)
 
 pub pack-spec : {M : Type 1} → statement M

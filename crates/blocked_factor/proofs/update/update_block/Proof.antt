@@ -27,12 +27,12 @@ least-requires c κs = search needs
 update-panel-requires : tie.Need-update-panel-requires Inv-loop μ-loop
 update-panel-requires c κs =
     let g = c .before .before .least .result in (
-      rw (c .before .before .before .before .loop .inv .2 .kept) (source-part (c .before .before .before .before .loop .s0) g (c .before .before .before .before .before .before .before .pre .0) (omega (arith, c .before .before .least .ensures, c .before .before .before .loop-test .taken))),
-      (omega (arith, c .before .before .least .ensures), (λ full. omega (arith, c .before .before .before .before .before .before .before .pre .1 (omega (arith, c .before .before .least .ensures, c .before .before .before .loop-test .taken)), c .before .before .before .before .loop .inv .1))),
+      rw (c .before .before .before .before .loop .inv .2 .kept) (source-part (c .before .before .before .before .loop .s0) g (c .before .before .before .before .before .before .before .pre) (omega (arith, c .before .before .least .ensures, c .before .before .before .loop-test .taken))),
+      omega (arith, c .before .before .least .ensures),
     )
 
 add-s0 : tie.Need-add-s0 Inv-loop μ-loop
-add-s0 c = omega (arith, c .before .before .before .before .before .before .before .least .ensures, c .before .before .before .before .before .before .before .before .loop-test .taken, c .before .before .before .before .before .before .before .before .before .before .before .before .pre .0 .tall, c .before .before .before .before .before .before .before .before .before .before .before .before .pre .0 .below, c .before .before .before .before .before .before .before .before .before .before .before .before .pre .0 .order)
+add-s0 c = omega (arith, c .before .before .before .before .before .before .before .least .ensures, c .before .before .before .before .before .before .before .before .loop-test .taken, c .before .before .before .before .before .before .before .before .before .before .before .before .pre .tall, c .before .before .before .before .before .before .before .before .before .before .before .before .pre .below, c .before .before .before .before .before .before .before .before .before .before .before .before .pre .order)
 
 loop-less : tie.Need-loop-less Inv-loop μ-loop
 loop-less c = omega (arith, c .before .before .before .before .before .before .before .least .ensures, c .before .before .before .before .before .before .before .before .loop-test .taken)
@@ -44,7 +44,7 @@ loop-again c =
     let fit : l .s0 + c .before .before .before .before .before .before .before .least .result ≤ a .target .width = omega (arith, c .before .before .before .before .before .before .before .least .ensures, c .before .before .before .before .before .before .before .before .loop-test .taken) in (
       fit,
       omega (arith, l .inv .1, c .before .before .before .before .update-panel .kept .1 .0),
-      columns-next (a .m .now) (l .m) _ (c .before .before .before .before .before .before .before .before .before .before .before .before .pre .0) (l .s0) (c .before .before .before .before .before .before .before .least .result) fit (l .inv .2) (c .before .before .before .before .update-panel .ensures),
+      columns-next (a .m .now) (l .m) _ (c .before .before .before .before .before .before .before .before .before .before .before .before .pre) (l .s0) (c .before .before .before .before .before .before .before .least .result) fit (l .inv .2) (c .before .before .before .before .update-panel .ensures),
     )
 
 same-length : tie.Need-same-length Inv-loop μ-loop

@@ -1,10 +1,12 @@
 -- `blocked_factor::update::update_panel` meets its contract. Assumes nothing.
 use native.Mathlib.Omega.{arith}
-use native.Mathlib.Nat.{le-refl}
 use Rattle.blocked_factor.proofs.Panels.{pack-ready}
 use borrow.Author.Needs.{needs}
 use Rattle.blocked_factor.proofs.update.update_panel.Statement.{statement}
 use Rattle.blocked_factor.proofs.update.update_panel.Tie as tie
+
+mul-if1 : tie.Need-mul-if1
+mul-if1 c = search needs
 
 sub-first : tie.Need-sub-first
 sub-first c = search needs
@@ -13,13 +15,13 @@ add-first : tie.Need-add-first
 add-first c = search needs
 
 pack-requires : tie.Need-pack-requires
-pack-requires c κs = pack-ready (c .before .before .before .before .before .before .before .pre .0) _ (c .before .before .before .before .if1 .taken) (c .before .before .before .before .before .before .before .pre .1 .1 (c .before .before .before .before .if1 .taken))
+pack-requires c κs = pack-ready (c .before .before .before .before .before .before .before .pre .0) _ (c .before .before .before .before .before .before .before .pre .1) (c .before .before .before .before .if1 .taken)
 
 update-rows-requires : tie.Need-update-rows-requires
-update-rows-requires c κs = (rw (c .before .before .before .before .before .before .before .before .before .if1 .taken) at (c .before .before .before .before .before .before .before .before .before .before .before .before .pre .0), (le-refl _, (λ full. (omega (arith, c .before .before .before .before .before .before .before .before .before .before .before .before .pre .1 .1 (c .before .before .before .before .before .before .before .before .before .if1 .taken), c .before .before .before .before .pack .kept .0), c .before .before .before .before .pack .ensures))))
+update-rows-requires c κs = (c .before .before .before .before .before .before .before .before .before .before .before .before .pre .0, (c .before .before .before .before .before .before .before .before .before .before .before .before .pre .1, (λ always. (omega (arith, c .before .before .before .before .before .before .before .before .before .if1 .taken, c .before .before .before .before .pack .kept .0), c .before .before .before .before .pack .ensures))))
 
 update-rows-requires-2 : tie.Need-update-rows-requires-2
-update-rows-requires-2 c κs = (c .before .before .before .before .before .pre .0, (c .before .before .before .before .before .pre .1 .0, (λ full. absurd (c .before .before .if1 .left full))))
+update-rows-requires-2 c κs = (c .before .before .before .before .before .pre .0, (c .before .before .before .before .before .pre .1, (λ never. absurd never)))
 
 same-length : tie.Need-same-length
 same-length c = search needs
@@ -28,7 +30,7 @@ same-length-2 : tie.Need-same-length-2
 same-length-2 c = search needs
 
 returns : tie.Need-returns
-returns c = rw (c .before .before .before .before .before .before .before .before .before .before .before .before .if1 .taken) (c .before .before .update-rows .ensures)
+returns c = search needs
 
 same-length-3 : tie.Need-same-length-3
 same-length-3 c = search needs
@@ -43,6 +45,7 @@ pub update-panel-spec : {M : Type 1} → statement M
 update-panel-spec =
     tie.close
     (tie.spec
+    mul-if1
     sub-first
     add-first
     pack-requires

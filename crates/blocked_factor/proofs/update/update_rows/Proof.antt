@@ -11,7 +11,7 @@ use Rattle.blocked_factor.proofs.update.update_rows.Statement.{statemen
 use Rattle.blocked_factor.proofs.update.update_rows.Tie as tie
 
 abbrev Inv-loop : tie.InvT-loop
-Inv-loop m₀ panel target source s0 g count above first x₀ y₀ r₀ m x y r =
+Inv-loop m₀ panel packed target source s0 g count above first x₀ y₀ r₀ m x y r =
     (s0 ≤ r)
     × (r ≤ target .rows)
     × (x ≡ source .start + rowStart (source .width) (source .rows - target .rows + r))
@@ -19,7 +19,7 @@ Inv-loop m₀ panel target source s0 g count above first x₀ y₀ r₀ m x y r 
     × PanelUpdated (target .start) (target .width) r s0 g (sourceAt m₀ (source .start) (source .width) (source .rows - target .rows)) count m₀ m
 
 abbrev μ-loop : tie.MeasureT-loop
-μ-loop m₀ panel target source s0 g count above first x₀ y₀ r₀ m x y r = target .rows - r
+μ-loop m₀ panel packed target source s0 g count above first x₀ y₀ r₀ m x y r = target .rows - r
 
 sub-above : tie.Need-sub-above Inv-loop μ-loop
 sub-above c = omega (arith, c .before .before .before .before .pre .0 .below)
@@ -92,7 +92,7 @@ update-row-requires : tie.Need-update-row-requires Inv-loop μ-loop
 update-row-requires c κs =
     let l = c .before .before .before .before .loop in
     rw (l .inv .2)
-    (row-ready (c .before .before .before .before .before .before .before .before .before .before .before .before .before .args .m .now) (l .m) (l .m) (c .before .before .before .before .before .before .before .before .before .before .before .before .before .pre .0) (l .r) (l .inv .0) (c .before .before .if1 .taken) (l .inv .4) (c .before .before .before .before .before .before .before .before .before .before .before .before .before .args .panel .now) _ _ (c .before .before .before .before .before .before .before .before .before .before .before .before .before .pre .1 .0) (c .before .before .before .before .before .before .before .before .before .before .before .before .before .pre .1 .1)
+    (row-ready (c .before .before .before .before .before .before .before .before .before .before .before .before .before .args .m .now) (l .m) (l .m) (c .before .before .before .before .before .before .before .before .before .before .before .before .before .pre .0) (l .r) (l .inv .0) (c .before .before .if1 .taken) (l .inv .4) (c .before .before .before .before .before .before .before .before .before .before .before .before .before .args .panel .now) (c .before .before .before .before .before .before .before .before .before .before .before .before .before .args .packed) _ _ (c .before .before .before .before .before .before .before .before .before .before .before .before .before .pre .1 .0) (c .before .before .before .before .before .before .before .before .before .before .before .before .before .pre .1 .1)
     (l .inv .3) (c .before .least .ensures))
 
 add-r : tie.Need-add-r Inv-loop μ-loop
