@@ -19,8 +19,9 @@ use Rattle.calls.specs.Triangles.{placeOf, height, load}
 use Rattle.calls.specs.Calls.{moved}
 use Rattle.calls.proofs.Triangles.{shaped-load, entry-load, store-same, memory-ext}
 use Rattle.calls.proofs.Rearranging.{layout-bijection, length-moved}
+use Rattle.kernels.specs.Kernels.{Replaced}
+use Rattle.kernels.proofs.Parts.{length-part, getD-part, part-replaced}
 use Rattle.rearrange.specs.Moves.{other, placeInPart, Sizes, MovedWithin}
-use Rattle.rearrange.proofs.Parts.{length-part, getD-part, put-before, put-part}
 use Rattle.rearrange.proofs.Places.{place-in-part-lt, place-before, place-of-part}
 
 -- the columns before c are moved, and the places from column c on as they were
@@ -34,13 +35,13 @@ self-le-square : (w : ℕ) → w ≤ w * w
 self-le-square zero = omega arith
 self-le-square (suc w) = omega arith
 
-pub block-start-work : (n b c : ℕ) → c ≤ n → blockStart (n - c) (width n b c) ≤ blockWork n b
+block-start-work : (n b c : ℕ) → c ≤ n → blockStart (n - c) (width n b c) ≤ blockWork n b
 unfolding blockWork width
 block-start-work n b c h =
     let product : (n - c) * width n b c ≤ n * min n b = mul-le-mul (omega arith) (omega arith) in
     omega (arith, product, block-start-double (n - c) (width n b c) (width-le n b c), self-le-square (width n b c))
 
-pub block-start-part : (n b c : ℕ) → c ≤ n → blockStart n c + blockStart (n - c) (width n b c) ≤ triangle n
+block-start-part : (n b c : ℕ) → c ≤ n → blockStart n c + blockStart (n - c) (width n b c) ≤ triangle n
 block-start-part n b c h =
     omega (
       arith,
@@ -60,10 +61,12 @@ pub part-sizes : (n b c at n′ w : ℕ) (m work : List Float)
     → blockWork n b ≤ length work
     → Sizes n′ w (take (length m - at) (drop at m)) work
 part-sizes n b c at n′ w m work order h start rows columns whole enough =
+    let whole-rest : length (take (length m - at) (drop at m)) ≡ length m - at =
+    length-part nan at (length m - at) m (omega (arith, block-start-part n b c h)) in
     record {
       order = omega arith;
       width = omega (arith, width-le n b c);
-      sourceHolds = rw (rows, columns) (omega (arith, length-part m at, block-start-part n b c h));
+      sourceHolds = rw (rows, columns) (omega (arith, whole-rest, block-start-part n b c h));
       targetHolds = rw (rows, columns) (omega (arith, block-start-work n b c h));
     }
 
@@ -72,7 +75,7 @@ part-sizes n b c at n′ w m work order h start rows columns whole enough =
 pub moved-before-first : (to : Layout) (n b : ℕ) (m : List Float) → MovedBefore to n b 0 m m
 moved-before-first to n b m = record { moved = λ i j e h. absurd (omega arith); kept = λ p h inside. refl }
 
-module _ (to : Layout) (n b c at n′ w : ℕ) (m m′ part rest : List Float)
+module _ (to : Layout) (n b c at n′ w : ℕ) (m m′ part : List Float)
     (positive : 0 < b)
     (inside : c < n)
     (first : blockOf b c ≡ c)
@@ -80,15 +83,21 @@ module _ (to : Layout) (n b c at n′ w : ℕ) (m m′ part rest : List Float)
     (rows : n′ ≡ n - c)
     (columns : w ≡ width n b c)
     (whole : length m′ ≡ triangle n)
-    (whole-part : length part ≡ length m′ - at)
+    (same : length part ≡ length (take (length m′ - at) (drop at m′)))
     (before : MovedBefore to n b c m m′)
     (here : MovedWithin to n′ w (take (length m′ - at) (drop at m′)) part)
   where
     abbrev next : List Float
-    next = take at m′ ++ (part ++ rest)
+    next = take at m′ ++ (part ++ drop (length m′ - at) (drop at m′))
 
     fits : at + blockStart n′ w ≤ triangle n
     fits = rw (start, rows, columns) (block-start-part n b c (omega arith))
+
+    whole-part : length part ≡ length m′ - at
+    whole-part = same ∙ length-part nan at (length m′ - at) m′ (omega (arith, fits))
+
+    put : Replaced nan at (length m′ - at) m′ part next
+    put = part-replaced nan at (length m′ - at) m′ part (omega (arith, fits)) whole-part
 
     at-kept : (p : ℕ) → at ≤ p → p < triangle n → getD m′ p nan ≡ getD m p nan
     at-kept p h h′ =
@@ -99,7 +108,10 @@ module _ (to : Layout) (n b c at n′ w : ℕ) (m m′ part rest : List Float)
     place-here layout r s e h =
         rw (start, rows, columns) (place-of-part layout n b c r s first (rw rows at e) (rw columns at h))
 
-    moved-here : (r s : ℕ) → Entry n′ r s → s < w → getD next (placeOf to n b (c + r) (c + s)) nan ≡ getD m (placeOf (other to) n b (c + r) (c + s)) nan
+    moved-here : (r s : ℕ)
+        → Entry n′ r s
+        → s < w
+        → getD next (placeOf to n b (c + r) (c + s)) nan ≡ getD m (placeOf (other to) n b (c + r) (c + s)) nan
     moved-here r s e h =
         let p : ℕ = placeInPart to n′ w r s in
         let q : ℕ = placeInPart (other to) n′ w r s in
@@ -107,9 +119,9 @@ module _ (to : Layout) (n b c at n′ w : ℕ) (m m′ part rest : List Float)
         let below : p < blockStart n′ w = place-in-part-lt to n′ w r s full e h in
         let below′ : q < blockStart n′ w = place-in-part-lt (other to) n′ w r s full e h in
         rw (place-here to r s e h, place-here (other to) r s e h)
-        (put-part m′ at (omega (arith, fits)) part rest nan p (omega (arith, fits))
+        (put .inside p (omega (arith, fits))
         ∙ here .moved r s e h
-        ∙ getD-part m′ at q nan
+        ∙ getD-part nan at (length m′ - at) m′ q (omega (arith, fits))
         ∙ at-kept (at + q) (omega arith) (omega (arith, fits)))
 
     pub moved-before-next : MovedBefore to n b (c + b) m next
@@ -119,8 +131,7 @@ module _ (to : Layout) (n b c at n′ w : ℕ) (m m′ part rest : List Float)
           moved = λ i j e h.
               elim (decLt j c) [
                 | yes p ↦
-                    put-before m′ at (omega (arith, fits)) part rest nan (placeOf to n b i j)
-                    (rw start (place-before to n b c i j positive first (omega arith) e p))
+                    put .before (placeOf to n b i j) (rw start (place-before to n b c i j positive first (omega arith) e p))
                     ∙ before .moved i j e p
                 | no p ↦
                     let row : c + (i - c) ≡ i = omega arith in
@@ -135,9 +146,9 @@ module _ (to : Layout) (n b c at n′ w : ℕ) (m m′ part rest : List Float)
               let behind : at + blockStart n′ w ≤ p = rw (start, rows) (omega arith) in
               let place : at + (p - at) ≡ p = omega arith in
               rw place at
-              (put-part m′ at (omega (arith, fits)) part rest nan (p - at) (omega arith)
+              (put .inside (p - at) (omega arith)
               ∙ here .kept (p - at) (omega arith)
-              ∙ getD-part m′ at (p - at) nan
+              ∙ getD-part nan at (length m′ - at) m′ (p - at) (omega arith)
               ∙ at-kept (at + (p - at)) (omega arith) (omega arith));
         }
 

@@ -1,5 +1,4 @@
 -- Laws of moved block columns, which the proofs of this crate cite.
-pub mod Parts
 pub mod Places
 pub mod Moves
 pub mod Blocks

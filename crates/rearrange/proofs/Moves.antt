@@ -1,34 +1,37 @@
--- Laws of specs/Moves.antt: moving one entry, and joining and extending what was moved. A move writes an entry's value at the entry's own place,
--- so none that was moved before is lost. Assumes nothing.
+-- Laws of specs/Moves.antt: joining what was moved, moving one entry or several columns of a row, and the way back from the work memory. A move
+-- writes an entry's value at the entry's own place, so none that was moved before is lost. Assumes nothing.
 use mathlib.Core.Path.{_≡_, _∙_}
 use mathlib.Core.List.{List, _++_}
 use Prim.Native.Nat.{ℕ, _+_, _-_, _≤_, _<_}
+use native.Mathlib.Nat.{zero-add}
 use native.Mathlib.Decide.{decLt, ℕ-discrete}
 use native.Mathlib.Omega.{arith}
-use lib.ListN.{length, getD, set, take, drop, List·getD-append}
-use lib.Seq.{getD-set-same, getD-set-other, getD-take, getD-drop, getD-append-add, length-take-le}
+use lib.ListN.{length, getD, set, take, drop}
+use lib.Seq.{getD-set-same, getD-set-other, getD-take, length-take-le}
 use lib.Ieee.{Float, nan}
 use Rattle.shape.specs.Places.{packedPlace, blockStart, placeInBlock}
 use Rattle.shape.specs.Layouts.{Entry}
+use Rattle.shape.proofs.Rows.{place-in-block-row}
 use Rattle.calls.specs.declared.Layout.{Layout}
+use Rattle.calls.specs.declared.Layout.the-variants.{Blocked}
+use Rattle.kernels.specs.Kernels.{Replaced}
+use Rattle.kernels.proofs.Parts.{prefix-replaced}
 use Rattle.rearrange.specs.Moves.{other, inLayout, placeInPart, Same, Moved, MovedWithin}
 use Rattle.rearrange.proofs.Places.{place-in-part-lt, place-in-part-apart}
 
-module _ (to : Layout) (n w : ℕ) (source : List Float) where
+module _ {to : Layout} {n w : ℕ} {source : List Float} where
   -- no rows, and no columns
-  pub moved-no-rows : (first end left right : ℕ) (t : List Float) → end ≤ first → Moved to n w first end left right source t t
-  moved-no-rows first end left right t none =
-      record { moved = λ r s e h a b c d. absurd (omega arith); kept = λ r s e h same. same }
+  pub moved-no-rows : {first left right : ℕ} {t : List Float} → Moved to n w first first left right source t t
+  moved-no-rows = record { moved = λ r s e h a b c d. absurd (omega arith); kept = λ r s e h same. same }
 
-  pub moved-no-columns : (first end left right : ℕ) (t : List Float) → right ≤ left → Moved to n w first end left right source t t
-  moved-no-columns first end left right t none =
-      record { moved = λ r s e h a b c d. absurd (omega arith); kept = λ r s e h same. same }
+  pub moved-no-columns : {first end left : ℕ} {t : List Float} → Moved to n w first end left left source t t
+  moved-no-columns = record { moved = λ r s e h a b c d. absurd (omega arith); kept = λ r s e h same. same }
 
-  pub join-rows : {first end left right : ℕ} (mid : ℕ) {t t′ t″ : List Float}
+  pub join-rows : {first mid end left right : ℕ} {t t′ t″ : List Float}
       → Moved to n w first mid left right source t t′
       → Moved to n w mid end left right source t′ t″
       → Moved to n w first end left right source t t″
-  join-rows mid m m′ =
+  join-rows {mid = mid} m m′ =
       record {
         moved = λ r s e h a b c d.
             elim (decLt r mid) [
@@ -38,11 +41,11 @@ module _ (to : Layout) (n w : ℕ) (source : List Float) where
         kept = λ r s e h same. m′ .kept r s e h (m .kept r s e h same);
       }
 
-  pub join-columns : {first end left right : ℕ} (mid : ℕ) {t t′ t″ : List Float}
+  pub join-columns : {first end left mid right : ℕ} {t t′ t″ : List Float}
       → Moved to n w first end left mid source t t′
       → Moved to n w first end mid right source t′ t″
       → Moved to n w first end left right source t t″
-  join-columns mid m m′ =
+  join-columns {mid = mid} m m′ =
       record {
         moved = λ r s e h a b c d.
             elim (decLt s mid) [
@@ -52,31 +55,17 @@ module _ (to : Layout) (n w : ℕ) (source : List Float) where
         kept = λ r s e h same. m′ .kept r s e h (m .kept r s e h same);
       }
 
-  -- the rows of column s begin with row s, and the columns of a row end with its diagonal
-  pub from-diagonal : {first end s : ℕ} (first′ : ℕ) {t t′ : List Float}
-      → Moved to n w first end s (s + 1) source t t′
-      → ((r : ℕ) → s ≤ r → first′ ≤ r → first ≤ r)
-      → Moved to n w first′ end s (s + 1) source t t′
-  from-diagonal first′ m more =
-      record {
-        moved = λ r s e h a b c d. m .moved r s e h (more r (omega arith) a) b c d;
-        kept = m .kept;
-      }
+  -- the columns of a row end with its diagonal
+  pub to-diagonal : {r left right : ℕ} {t t′ : List Float}
+      → Moved to n w r (r + 1) left (r + 1) source t t′
+      → Moved to n w r (r + 1) left right source t t′
+  to-diagonal m = record { moved = λ r s e h a b c d. m .moved r s e h a b c (omega arith); kept = m .kept }
 
-  pub to-diagonal : {first end left right right′ : ℕ} {t t′ : List Float}
-      → Moved to n w first end left right source t t′
-      → ((s : ℕ) → s < w → s < end → s < right)
-      → Moved to n w first end left right′ source t t′
-  to-diagonal m more =
-      record {
-        moved = λ r s e h a b c d. m .moved r s e h a b c (more s h (omega arith));
-        kept = m .kept;
-      }
+-- ---- one entry, where p and q are its places
 
-  -- ---- one entry
-
-  module _ (r s : ℕ) (e : Entry n r s) (h : s < w) (full : w ≤ n) (t : List Float) (fit : blockStart n w ≤ length t) where
-    abbrev pub withEntry : List Float
+module _ (to : Layout) (n w r s : ℕ) (source t : List Float) (e : Entry n r s) (h : s < w) (full : w ≤ n) (fit : blockStart n w ≤ length t)
+  where
+    abbrev withEntry : List Float
     withEntry = set t (placeInPart to n w r s) (getD source (placeInPart (other to) n w r s) nan)
 
     same-entry : Same to n w source withEntry r s
@@ -88,15 +77,15 @@ module _ (to : Layout) (n w : ℕ) (source : List Float) where
     kept-entry r′ s′ e′ h′ same =
         elim (ℕ-discrete (placeInPart to n w r′ s′) (placeInPart to n w r s)) [
           | yes p ↦
-              let at : (r′ ≡ r) × (s′ ≡ s) = place-in-part-apart to n w r′ s′ r s e′ e h′ h p in
-              rw (at .0, at .1) same-entry
+              let entry : (r′ ≡ r) × (s′ ≡ s) = place-in-part-apart to n w r′ s′ r s e′ e h′ h p in
+              rw (entry .0, entry .1) same-entry
           | no p ↦
               getD-set-other t (placeInPart to n w r s) (placeInPart to n w r′ s′) (getD source (placeInPart (other to) n w r s) nan) nan p
               ∙ same
         ]
 
-    pub moved-entry : Moved to n w r (r + 1) s (s + 1) source t withEntry
-    moved-entry =
+    with-entry : Moved to n w r (r + 1) s (s + 1) source t withEntry
+    with-entry =
         record {
           moved = λ r′ s′ e′ h′ a b c d.
               let row : r′ ≡ r = omega arith in
@@ -105,42 +94,80 @@ module _ (to : Layout) (n w : ℕ) (source : List Float) where
           kept = kept-entry;
         }
 
--- one row more of column s, where p and q are the places of entry (r, s)
-pub moved-row : (to : Layout) (n w first r s p q : ℕ) (source t t′ t″ : List Float)
+pub moved-entry : {to : Layout} {n w r s p q : ℕ} {source t t′ : List Float}
     → Entry n r s
     → s < w
     → w ≤ n
-    → blockStart n w ≤ length t′
+    → blockStart n w ≤ length t
     → p ≡ packedPlace n r s
     → q ≡ placeInBlock w r s
-    → Moved to n w first r s (s + 1) source t t′
-    → t″ ≡ set t′ (inLayout to p q) (getD source (inLayout (other to) p q) nan)
-    → Moved to n w first (r + 1) s (s + 1) source t t″
-moved-row to n w first r s p q source t t′ t″ e h full fit at-p at-q m step =
-    rw (step, at-p, at-q) (join-rows to n w source r m (moved-entry to n w source r s e h full t′ fit))
+    → t′ ≡ set t (inLayout to p q) (getD source (inLayout (other to) p q) nan)
+    → Moved to n w r (r + 1) s (s + 1) source t t′
+moved-entry {to = to} {n = n} {w = w} {r = r} {s = s} {source = source} {t = t} e h full fit at-p at-q step =
+    rw (step, at-p, at-q) (with-entry to n w r s source t e h full fit)
+
+-- ---- columns of a row below the diagonal block, stored together in blocked order from q on
+
+module _ (n w r s count q : ℕ) (source t t′ values : List Float)
+    (under : w ≤ r)
+    (inside : r < n)
+    (columns : s + count ≤ w)
+    (at : q ≡ placeInBlock w r s)
+    (read : (k : ℕ) → k < count → getD values k nan ≡ getD source (packedPlace n r (s + k)) nan)
+    (stored : Replaced nan q count t values t′)
+  where
+    place-at : (k : ℕ) → q + k ≡ placeInBlock w r (s + k)
+    place-at k = omega (arith, place-in-block-row w r s, place-in-block-row w r (s + k))
+
+    same-column : (k : ℕ) → k < count → Same Blocked n w source t′ r (s + k)
+    same-column k h = rw (place-at k) at (stored .inside k h) ∙ read k h
+
+    kept-column : (r′ s′ : ℕ) → Entry n r′ s′ → s′ < w → Same Blocked n w source t r′ s′ → Same Blocked n w source t′ r′ s′
+    kept-column r′ s′ e h same =
+        let p : ℕ = placeInBlock w r′ s′ in
+        elim (decLt p q) [
+          | yes before ↦ stored .before p before ∙ same
+          | no low ↦
+              elim (decLt p (q + count)) [
+                | yes high ↦
+                    let k : ℕ = p - q in
+                    let entry : (r′ ≡ r) × (s′ ≡ s + k) =
+                    place-in-part-apart Blocked n w r′ s′ r (s + k) e (omega arith) h (omega arith) (omega (arith, place-at k)) in
+                    rw (entry .0, entry .1) (same-column k (omega arith))
+                | no after ↦ stored .after p (omega arith) ∙ same
+              ]
+        ]
+
+    pub moved-columns : Moved Blocked n w r (r + 1) s (s + count) source t t′
+    moved-columns =
+        record {
+          moved = λ r′ s′ e h a b c d.
+              let row : r′ ≡ r = omega arith in
+              let column : s + (s′ - s) ≡ s′ = omega arith in
+              rw row (rw column at (same-column (s′ - s) (omega arith)));
+          kept = kept-column;
+        }
 
 -- ---- back from the work memory
 
-module _ (to : Layout) (n w : ℕ) (memory work : List Float) (l : ℕ) (values : l ≡ blockStart n w) (fit : l ≤ length work) where
-  back-front : (p : ℕ) → p < l → getD (take l work ++ drop l memory) p nan ≡ getD work p nan
-  back-front p h =
-      List·getD-append (take l work) (drop l memory) nan p (omega (arith, length-take-le l work fit)) ∙ getD-take l work p nan h
+module _ (to : Layout) (n w : ℕ) (memory work : List Float) (l : ℕ) (values : l ≡ blockStart n w)
+    (fit : l ≤ length memory)
+    (fit′ : l ≤ length work)
+  where
+    back : Replaced nan 0 l memory (take l work) (take l work ++ drop l memory)
+    back = prefix-replaced nan l memory (take l work) fit (length-take-le l work fit′)
 
-  back-rest : (p : ℕ) → l ≤ p → getD (take l work ++ drop l memory) p nan ≡ getD memory p nan
-  back-rest p h =
-      let at : length (take l work) + (p - l) ≡ p = omega (arith, length-take-le l work fit) in
-      let behind : l + (p - l) ≡ p = omega arith in
-      rw at at (getD-append-add (take l work) (drop l memory) (p - l) nan)
-      ∙ rw behind at (getD-drop l memory (p - l) nan)
-
-  pub moved-back : {t : List Float}
-      → w ≤ n
-      → Moved to n w 0 n 0 w memory t work
-      → MovedWithin to n w memory (take l work ++ drop l memory)
-  moved-back full m =
-      record {
-        moved = λ r s e h.
-            back-front (placeInPart to n w r s) (omega (arith, place-in-part-lt to n w r s full e h))
-            ∙ m .moved r s e h (omega arith) (e .inside) (omega arith) h;
-        kept = λ p h. back-rest p (omega arith);
-      }
+    pub moved-back : {t : List Float}
+        → w ≤ n
+        → Moved to n w 0 n 0 w memory t work
+        → MovedWithin to n w memory (take l work ++ drop l memory)
+    moved-back full m =
+        record {
+          moved = λ r s e h.
+              let p : ℕ = placeInPart to n w r s in
+              let below : p < l = omega (arith, place-in-part-lt to n w r s full e h) in
+              rw zero-add at (back .inside p below)
+              ∙ getD-take l work p nan below
+              ∙ m .moved r s e h (omega arith) (e .inside) (omega arith) h;
+          kept = λ p h. back .after p (omega arith);
+        }

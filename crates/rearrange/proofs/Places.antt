@@ -1,5 +1,5 @@
--- Places in a block column, as places of specs/Moves.antt: below the block column's length, and apart. And as places in the whole triangle, for
--- every n and every b ≥ 1. `block-of-before` and `blocked-place-lt` belong to the crate `shape`, file Blocks. Assumes nothing.
+-- Places in a block column, as places of specs/Moves.antt: below the block column's length, apart, and from row to row and column to column. And
+-- as places in the whole triangle, for every n and every b ≥ 1. Assumes nothing.
 use mathlib.Core.Path.{_≡_}
 use Prim.Native.Nat.{ℕ, _+_, _-_, _/_, _≤_, _<_}
 use native.Mathlib.Nat.{mul-le-mul-left, div-lt-iff-lt-mul, mul-comm}
@@ -7,7 +7,7 @@ use native.Mathlib.Omega.{arith}
 use Rattle.shape.specs.Places.{packedPlace, blockOf, blockStart, width, placeInBlock, blockedPlace}
 use Rattle.shape.specs.Layouts.{Entry}
 use Rattle.shape.proofs.Parts.{starts-apart}
-use Rattle.shape.proofs.Columns.{block-start-split, packed-place-at, packed-place-lt}
+use Rattle.shape.proofs.Columns.{block-start-next, block-start-split, packed-place-diagonal, packed-place-at, packed-place-lt}
 use Rattle.shape.proofs.Rows.{rowLength, place-in-block-row, place-in-block-lt}
 use Rattle.shape.proofs.Blocks.{block-of-le, column-in-width, width-le, width-le-block, blocked-place-block, blocked-place-at}
 use Rattle.shape.proofs.Bijections.{packed-bijection}
@@ -23,8 +23,22 @@ pub place-in-part-lt : (layout : Layout) (n w r s : ℕ) → w ≤ n → Entry n
 place-in-part-lt Packed n w r s full e h = packed-place-lt n w r s e h full
 place-in-part-lt Blocked n w r s full e h = place-in-block-lt n w r s full (e .inside) (omega arith)
 
+pub packed-place-rows : (n first r s : ℕ) → first ≤ r → packedPlace n r s ≡ packedPlace n first s + (r - first)
+unfolding packedPlace
+packed-place-rows n first r s h = omega arith
+
+pub packed-place-next-column : (n r s : ℕ) → s < n → packedPlace n r (s + 1) ≡ packedPlace n r s + (n - s - 1)
+unfolding packedPlace
+packed-place-next-column n r s h =
+    omega (
+      arith,
+      packed-place-diagonal n s (omega arith),
+      packed-place-diagonal n (s + 1) (omega arith),
+      block-start-next n s h,
+    )
+
 -- where p and q are the places of entry (r, s)
-pub in-layout-lt : (layout : Layout) (n w r s p q l : ℕ)
+pub in-layout-lt : (layout : Layout) {n w r s p q l : ℕ}
     → w ≤ n
     → Entry n r s
     → s < w
@@ -32,7 +46,8 @@ pub in-layout-lt : (layout : Layout) (n w r s p q l : ℕ)
     → q ≡ placeInBlock w r s
     → blockStart n w ≤ l
     → inLayout layout p q < l
-in-layout-lt layout n w r s p q l full e h at-p at-q fit = rw (at-p, at-q) (omega (arith, place-in-part-lt layout n w r s full e h))
+in-layout-lt layout {n = n} {w = w} {r = r} {s = s} full e h at-p at-q fit =
+    rw (at-p, at-q) (omega (arith, place-in-part-lt layout n w r s full e h))
 
 pub place-in-part-apart : (layout : Layout) (n w r s r′ s′ : ℕ)
     → Entry n r s
@@ -49,13 +64,13 @@ place-in-part-apart Blocked n w r s r′ s′ e e′ h h′ p =
 -- ---- in the whole triangle
 
 -- where the columns before c are whole block columns
-pub block-of-before : (b c j : ℕ) → 0 < b → blockOf b c ≡ c → j < c → blockOf b j + b ≤ c
+block-of-before : (b c j : ℕ) → 0 < b → blockOf b c ≡ c → j < c → blockOf b j + b ≤ c
 unfolding blockOf
 block-of-before b c j positive first h =
     let below : j / b < c / b = div-lt-iff-lt-mul positive .1 (omega (arith, mul-comm b (c / b))) in
     omega (arith, mul-le-mul-left b below)
 
-pub blocked-place-lt : (n b c i j : ℕ) → 0 < b → blockOf b c ≡ c → c ≤ n → Entry n i j → j < c → blockedPlace n b i j < blockStart n c
+blocked-place-lt : (n b c i j : ℕ) → 0 < b → blockOf b c ≡ c → c ≤ n → Entry n i j → j < c → blockedPlace n b i j < blockStart n c
 blocked-place-lt n b c i j positive first inside e h =
     let d : ℕ = blockOf b j in
     let w : ℕ = width n b d in

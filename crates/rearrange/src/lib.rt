@@ -8,7 +8,9 @@ ghost use Rattle.shape.specs.Places.{triangle, blockWork};
 ghost use Rattle.calls.specs.Calls.{DoneAs, moved, rearrange, packedToBlocked, blockedToPacked};
 ghost use Rattle.rearrange.specs.Moves.{other};
 
+mod below;
 mod block;
+mod diagonal;
 
 use block::move_block;
 use calls::CallResult;

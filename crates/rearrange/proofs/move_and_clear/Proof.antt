@@ -20,7 +20,9 @@ same-length-2 : tie.Need-same-length-2
 same-length-2 c = search needs
 
 returns : tie.Need-returns
-returns c = (c .before .before .before .before .before .before .before .before .move-blocks .ensures, c .before .before .clear .ensures ∙ ap (λ (n : ℕ). replicate n zero64) (c .before .before .before .before .before .before .before .before .move-blocks .kept .1 .1 .1 .0))
+returns c =
+    let done = c .before .before .before .before .before .before .before .before .move-blocks in
+    (done .ensures, c .before .before .clear .ensures ∙ ap (λ (n : ℕ). replicate n zero64) (done .kept .1 .1 .1 .0))
 
 pub move-and-clear-spec : {M : Type 1} → statement M
 move-and-clear-spec =

@@ -1,5 +1,5 @@
--- `rearrange::block::move_rows` meets its contract. The loop's invariant: the rows before r are moved. The measure is the number of rows left.
--- Assumes nothing.
+-- `rearrange::block::move_rows` meets its contract. The loop's invariant: the rows from the diagonal block's end to r are moved. The measure is the
+-- number of rows left. Assumes nothing.
 use mathlib.Core.Path.{_≡_, refl}
 use Prim.Native.Nat.{_-_, _≤_}
 use native.Mathlib.Omega.{arith}
@@ -13,16 +13,18 @@ use Rattle.rearrange.proofs.block.move_rows.Tie as tie
 abbrev Inv-loop : tie.InvT-loop
 Inv-loop to part source target₀ n r₀ target r =
     (length target ≡ length target₀)
+    × (part .block ≤ r)
     × (r ≤ n)
-    × Moved to (part .order) (part .block) 0 r 0 (part .block) source target₀ target
+    × Moved to (part .order) (part .block) (part .block) r 0 (part .block) source target₀ target
 
 abbrev μ-loop : tie.MeasureT-loop
 μ-loop to part source target₀ n r₀ target r = n - r
 
+move-diagonal-requires : tie.Need-move-diagonal-requires Inv-loop μ-loop
+move-diagonal-requires c κs = search needs
+
 loop-holds : tie.Need-loop-holds Inv-loop μ-loop
-loop-holds c =
-    let args = c .before .before .args in
-    (refl, omega arith, moved-no-rows (args .to) (args .part .order) (args .part .block) (args .source .now) 0 0 0 (args .part .block) (args .target .now) (omega arith))
+loop-holds c = (refl, omega arith, omega arith, moved-no-rows)
 
 add-lesser : tie.Need-add-lesser Inv-loop μ-loop
 add-lesser c = omega arith
@@ -33,6 +35,7 @@ lesser-requires c κs = search needs
 move-tile-requires : tie.Need-move-tile-requires Inv-loop μ-loop
 move-tile-requires c κs =
     let rows = c .before .lesser .ensures in
+    let size = c .before .before .before .before .before .before .move-diagonal .kept in
     (omega arith, omega arith)
 
 loop-less : tie.Need-loop-less Inv-loop μ-loop
@@ -40,19 +43,20 @@ loop-less c = omega (arith, c .before .before .before .before .lesser .ensures)
 
 loop-again : tie.Need-loop-again Inv-loop μ-loop
 loop-again c =
-    let args = c .before .before .before .before .before .before .before .before .before .args in
-    let at = c .before .before .before .before .before .before .loop in
-    (omega (arith, c .before .before .move-tile .kept), omega (arith, c .before .before .before .before .lesser .ensures), join-rows (args .to) (args .part .order) (args .part .block) (args .source .now) (at .r) (at .inv .2) (c .before .before .move-tile .ensures))
+    let at = c .before .before .before .before .before .before .loop in (
+      omega (arith, c .before .before .move-tile .kept),
+      omega (arith, c .before .before .before .before .lesser .ensures),
+      omega (arith, c .before .before .before .before .lesser .ensures),
+      join-rows (at .inv .3) (c .before .before .move-tile .ensures),
+    )
 
 same-length : tie.Need-same-length Inv-loop μ-loop
-same-length c = omega arith
+same-length c = omega (arith, c .before .before .before .before .move-diagonal .kept)
 
 returns : tie.Need-returns Inv-loop μ-loop
 returns c =
-    let args = c .before .before .before .before .args in
-    let at = c .before .loop in
-    let all : at .r ≡ args .part .order = omega arith in
-    rw all at (at .inv .2)
+    let all : c .before .loop .r ≡ c .before .before .before .before .before .before .before .before .args .part .order = omega arith in
+    join-rows (c .before .before .before .before .move-diagonal .ensures) (rw all at (c .before .loop .inv .3))
 
 pub move-rows-spec : {M : Type 1} → statement M
 move-rows-spec =
@@ -60,6 +64,7 @@ move-rows-spec =
     (tie.spec
     Inv-loop
     μ-loop
+    move-diagonal-requires
     loop-holds
     add-lesser
     lesser-requires

@@ -1,8 +1,8 @@
--- `rearrange::block::move_value` meets its contract: in each arm the two places that the contract names are the two of the code. Assumes nothing.
+-- `rearrange::diagonal::move_value` meets its contract: in each arm the two places that the contract names are the two of the code. Assumes nothing.
 use native.Mathlib.Omega.{arith}
 use borrow.Author.Needs.{needs}
-use Rattle.rearrange.proofs.block.move_value.Statement.{statement}
-use Rattle.rearrange.proofs.block.move_value.Tie as tie
+use Rattle.rearrange.proofs.diagonal.move_value.Statement.{statement}
+use Rattle.rearrange.proofs.diagonal.move_value.Tie as tie
 
 enum-told : tie.Need-enum-told
 enum-told c = search needs
