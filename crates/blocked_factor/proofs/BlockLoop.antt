@@ -26,10 +26,11 @@ use Rattle.calls.specs.Calls.{finished, columnsVerdict}
 use Rattle.calls.proofs.Triangles.{entry-load, memory-ext, length-store, store-same, store-other}
 use Rattle.calls.proofs.Columns.{columns, entry-kept, shaped-columns}
 use Rattle.calls.proofs.Refusals.{Lowest, lowest-refused, lowest-accepted}
-use Rattle.calls.proofs.Judging.{first-success, lowest-all}
+use Rattle.calls.proofs.Judging.{lowest-all}
 use Rattle.blocked_factor.specs.BlockStages.{judgeColumn}
 use Rattle.blocked_factor.specs.BlockSteps.{BlockAt, FactoredTo, BlockDone, Sized, BlocksDone}
 use Rattle.blocked_factor.proofs.Stages.{lowest-stays}
+use Rattle.blocked_factor.proofs.Runs.{judge-success}
 use Rattle.blocked_factor.proofs.BlockParts.{inside-le}
 
 rules-place :
@@ -50,10 +51,6 @@ judge-place : (n : ℕ) (a : Triangle) (j : ℕ) → accepted (judgeColumn n a j
 unfolding columnRules
 judge-place n a j e =
     rules-place j (judged (pivot a (cholesky (height n) a j) j)) (below (height n) a j (cholesky (height n) a j)) e
-
-judge-success : (n : ℕ) (a : Triangle) (j : ℕ) → T (accepted (judgeColumn n a j)) → judgeColumn n a j ≡ success
-unfolding columnRules
-judge-success n a j t = first-success _ t
 
 pub block-at : {n b len workLength : ℕ} (c len′ : ℕ) → Sized n b len workLength → len′ ≡ len → c < n → blockOf b c ≡ c → BlockAt n b c len′
 block-at c len′ sized same inside first =
@@ -77,7 +74,7 @@ next-first {n} {b} {c} {len} here inside = go (decLt (n - c) b)
 -- the first c columns are finished and accepted
 pub record Reached (n b : ℕ) (m : List Float) (c : ℕ) (m′ : List Float) : Type 0 where
   pub kept : length m′ ≡ length m
-  pub reached : (a : Triangle) → FactoredTo n b a 0 m → FactoredTo n b a c m′ × (lowestRefusal (judgeColumn n a) c ≡ success)
+  reached : (a : Triangle) → FactoredTo n b a 0 m → FactoredTo n b a c m′ × (lowestRefusal (judgeColumn n a) c ≡ success)
 
 pub reached-none : (n b : ℕ) (m : List Float) → Reached n b m 0 m
 unfolding lowestRefusal

@@ -1,8 +1,8 @@
 -- The outcome of the blocked factor against its definition: refused by a check, or factored up to the block column of the first refused column.
 -- Assumes nothing.
 use Prim.Native.Nat.{ℕ, _≤_}
-use mathlib.Core.Path.{_≡_, refl, sym, ap, _∙_}
-use mathlib.Core.Bool.{true, false}
+use mathlib.Core.Path.{_≡_, sym, ap, _∙_}
+use mathlib.Core.Bool.{true}
 use mathlib.Core.List.{List, _++_}
 use lib.ListN.{length, take, drop, replicate}
 use lib.Seq.{length-take-le}
@@ -15,18 +15,14 @@ use Rattle.calls.specs.Triangles.{Triangle, height, placeOf, load, store}
 use Rattle.calls.specs.Arithmetic.{cholesky}
 use Rattle.calls.specs.Refusals.{accepted}
 use Rattle.calls.specs.Calls.{DoneAs, clear, factorChecks, factored, factorize, finished}
-use Rattle.calls.proofs.CheckLaws.{FactorAccepted, factor-accepted}
+use Rattle.calls.proofs.CheckLaws.{FactorAccepted, factor-passed}
 use Rattle.blocked_factor.specs.BlockSteps.{Sized, BlocksDone}
 use Rattle.blocked_factor.proofs.BlockLoop.{factored-matrix}
 
 module _ (n b : ℕ) (m w : List Float) (checks : CallResult) (e : checks ≡ factorChecks Blocked n b m (length w)) where
-  pub checks-refused : accepted checks ≡ false → DoneAs (factorize Blocked n b m w) checks m w
-  unfolding factorize
-  checks-refused f = rw (ap accepted (sym e) ∙ f) (record { result = e; matrix = refl; work = refl })
-
   module _ (passed : accepted checks ≡ true) where
-    pub checks-accepted : FactorAccepted Blocked n b m (length w)
-    checks-accepted = factor-accepted Blocked n b m (length w) (rw (ap accepted (sym e) ∙ passed) tt)
+    checks-accepted : FactorAccepted Blocked n b m (length w)
+    checks-accepted = factor-passed Blocked n b m w checks e passed
 
     -- the part of the work memory that is used
     module _ (needed : ℕ) (size : needed ≡ blockWork n b) where

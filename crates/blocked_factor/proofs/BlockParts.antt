@@ -1,14 +1,14 @@
 -- From the part of the memory that begins at a block column's start to the whole memory, and from places to entries. Assumes nothing.
 use Prim.Native.Nat.{ℕ, zero, suc, _+_, _-_, _*_, _≤_, _<_, min}
-use native.Mathlib.Nat.{add-zero, mul-le-mul, mul-le-mul-left, mul-le-mul-right}
+use native.Mathlib.Nat.{add-zero, mul-le-mul, mul-le-mul-right}
 use native.Mathlib.Omega.{arith}
 use native.Mathlib.Decide.{decLt}
 use mathlib.Core.Path.{_≡_, sym, ap, _∙_, subst}
 use mathlib.Core.Bool.{true, false}
 use mathlib.Core.List.{List, [], _++_, append-nil}
 use lib.Dec.{T}
-use lib.ListN.{length, getD, take, drop, set, length-drop, length-append, List·getD-append}
-use lib.Seq.{take-all, getD-set-same, getD-set-other, getD-drop, getD-take, getD-append-add, length-take-le, drop-length, ext-getD}
+use lib.ListN.{length, getD, take, drop, length-drop, length-append, List·getD-append}
+use lib.Seq.{take-all, getD-drop, getD-take, getD-append-add, length-take-le, drop-length, ext-getD}
 use lib.Ieee.{Float, nan}
 use Rattle.shape.specs.Places.{triangle, blockOf, blockStart, width, placeInBlock, blockedPlace, blockWork}
 use Rattle.shape.specs.Layouts.{Entry}
@@ -30,7 +30,7 @@ use Rattle.blocked_factor.proofs.EarlierBlocks.{block-end, block-before
 
 -- ---- a part of a list from a place on
 
-pub part-get : (m : List Float) (at p : ℕ) → getD (take (length m - at) (drop at m)) p nan ≡ getD m (at + p) nan
+part-get : (m : List Float) (at p : ℕ) → getD (take (length m - at) (drop at m)) p nan ≡ getD m (at + p) nan
 part-get m at p =
     ap (λ l. getD l p nan) (take-all (length m - at) (drop at m) (omega (arith, length-drop at m))) ∙ getD-drop at m p nan
 
@@ -41,7 +41,7 @@ pub whole-before : (m q : List Float) (at p : ℕ) → at ≤ length m → p < a
 whole-before m q at p room low =
     List·getD-append (take at m) q nan p (omega (arith, length-take-le at m room)) ∙ getD-take at m p nan low
 
-pub whole-after : (m q : List Float) (at p : ℕ) → at ≤ length m → getD (take at m ++ q) (at + p) nan ≡ getD q p nan
+whole-after : (m q : List Float) (at p : ℕ) → at ≤ length m → getD (take at m ++ q) (at + p) nan ≡ getD q p nan
 whole-after m q at p room = rw (length-take-le at m room) at (getD-append-add (take at m) q p nan)
 
 -- what is put back where the part is all from a place on
@@ -94,7 +94,7 @@ module _ {n b c len : ℕ} (here : BlockAt n b c len) where
       )
 
   -- and those of later columns past it
-  pub place-after : (i j : ℕ) → Entry n i j → c + width n b c ≤ j → blockStart n (c + width n b c) ≤ blockedPlace n b i j
+  place-after : (i j : ℕ) → Entry n i j → c + width n b c ≤ j → blockStart n (c + width n b c) ≤ blockedPlace n b i j
   place-after i j e high = go (decLt (n - c) b)
     where
       go : Dec (n - c < b) → blockStart n (c + width n b c) ≤ blockedPlace n b i j
@@ -214,18 +214,9 @@ module _
 
 -- ---- entry values kept and put back
 
-pub saved-next :
-    (m work : List Float) (start k : ℕ) → k < length work → ((j : ℕ) → j < k → getD work j nan ≡ getD m (start + j) nan) → (j : ℕ) → j < k + 1 →
-    getD (set work k (getD m (start + k) nan)) j nan ≡ getD m (start + j) nan
-saved-next m work start k room saved j h =
-    elim (decLt j k) [
-      | yes p ↦ getD-set-other work k j (getD m (start + k) nan) nan (λ z. omega arith) ∙ saved j p
-      | no p ↦ let same : j ≡ k = omega arith in rw same (getD-set-same work k (getD m (start + k) nan) nan room)
-    ]
-
--- the kept values take at most the whole rows
-kept-le : (w h : ℕ) → w ≤ h → rowStart w h ≡ triangle w + (h - w) * w
-kept-le w h tall = omega (arith, place-in-block-row w h 0, row-start-under w h tall)
+-- how many values the rows of a block column have
+rows-size : (w h : ℕ) → w ≤ h → rowStart w h ≡ triangle w + (h - w) * w
+rows-size w h tall = omega (arith, place-in-block-row w h 0, row-start-under w h tall)
 
 pub restored :
     {n b c : ℕ} (m m₁ m₂ work : List Float) (answer : CallResult) (here : BlockAt n b c (length m)) → BlockFactored n b c m answer m₁ →
@@ -256,7 +247,7 @@ size-le {n} {b} {c} {len} here =
       arith,
       total,
       block-end n c (width n b c) (inside-le here),
-      kept-le (width n b c) (n - c) (width-le n b c),
+      rows-size (width n b c) (n - c) (width-le n b c),
       triangle-exact (width n b c),
       square-ge (width n b c),
     )

@@ -2,28 +2,20 @@
 use Prim.Native.Nat.{ℕ, _+_, _-_, _≤_, _<_}
 use native.Mathlib.Omega.{arith}
 use mathlib.Core.Path.{_≡_, refl, sym, _∙_}
-use mathlib.Core.Bool.{Bool, true, false, cond}
+use mathlib.Core.Bool.{true, false}
 use mathlib.Core.List.{List}
 use lib.ListN.{length, getD, set, length-set}
 use lib.Seq.{getD-set-same, getD-set-other}
 use lib.Ieee.{Float, nan}
-use Rattle.binary64.specs.Kinds.{finite, positive, zero64}
-use Rattle.binary64.specs.Root.{root}
+use Rattle.binary64.specs.Kinds.{finite, zero64}
 use Rattle.binary64.specs.Judged.{judged}
 use Rattle.binary64.specs.declared.Pivot.the-variants.{Root, Refused}
 use Rattle.calls.specs.Sequences.{all}
 use Rattle.calls.specs.Refusals.{success, refusal, firstRefusal, rule11}
 use Rattle.calls.specs.Arithmetic.{minusProducts}
+use Rattle.calls.proofs.Judging.{judged-root}
 use Rattle.blocked_factor.specs.BlockColumns.{rowStart, rowAt, lessPanel, columnRoot, columnUnder, UnderFinished, ColumnFinished}
 use Rattle.blocked_factor.proofs.BlockRows.{row-lt, row-within}
-
-pub judged-root : (x d : Float) → judged x ≡ Root d → d ≡ root x
-unfolding judged
-judged-root x d e = go (positive x) e
-  where
-    go : (b : Bool) → cond b (Root (root x)) (Refused x) ≡ Root d → d ≡ root x
-    go true e = cc
-    go false e = let z : _≡_ {A = ℕ} 0 1 = cc in absurd (omega arith)
 
 module _ (c w h s0 s : ℕ) (m : List Float) where
   pub column-pivot-refused :

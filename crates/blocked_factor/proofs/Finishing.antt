@@ -5,7 +5,7 @@ use native.Mathlib.Decide.{decLt}
 use mathlib.Core.Path.{_≡_, refl, sym, ap, ap₂, _∙_}
 use mathlib.Core.Logic.{_≢_}
 use mathlib.Core.Bool.{Bool, true, _&&_, and-true}
-use mathlib.Core.List.{List, _++_}
+use mathlib.Core.List.{List}
 use lib.ListN.{length, getD, set, length-set}
 use lib.Seq.{getD-set-same, getD-set-other}
 use lib.Ieee.{Float, nan, binary64, div}
@@ -15,8 +15,8 @@ use Rattle.calls.specs.Arithmetic.{minusProducts}
 use Rattle.calls.proofs.Sequences.{tabulate-of, tabulate-same, tabulate-append, all-append}
 use Rattle.calls.proofs.Columns.{products-same}
 use Rattle.kernels.specs.Kernels.{Scattered}
-use Rattle.blocked_factor.specs.BlockColumns.{rowStart, rowAt, lessPanel, columnQuotient, RowsFinished, UnderFinished}
-use Rattle.blocked_factor.proofs.BlockRows.{row-next, row-mono, row-lt, row-apart}
+use Rattle.blocked_factor.specs.BlockColumns.{rowStart, rowAt, columnQuotient, RowsFinished, UnderFinished}
+use Rattle.blocked_factor.proofs.BlockRows.{row-next, row-lt, row-apart}
 
 -- ---- what is judged
 

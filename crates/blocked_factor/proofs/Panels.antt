@@ -9,8 +9,7 @@ use mathlib.Core.Logic.{_≢_, _⊎_, inl, inr}
 use mathlib.Core.Bool.{Bool}
 use mathlib.Core.List.{List}
 use lib.Dec.{T}
-use lib.ListN.{length, getD, set, length-set}
-use lib.Seq.{getD-set-same, getD-set-other}
+use lib.ListN.{length, getD, set}
 use lib.Ieee.{Float, nan}
 use Rattle.shape.specs.Bounds.{maxOrder}
 use Rattle.calls.specs.Arithmetic.{minusProducts}
@@ -71,7 +70,7 @@ module _ {len at w h sat sw sh s0 g count : ℕ} (source : Source len at w h sat
   row-inside r low high = omega (arith, row-end r low high, row-mono sw (sh - h + r + 1) sh (omega (arith, source .below)))
 
   -- the products of an entry are of values before its row's entries in the panel
-  pub source-before :
+  source-before :
       (r s : ℕ) → s0 ≤ s → s ≤ r → r < h → sat + rowStart sw (sh - h + s) + count ≤ at + rowStart w r + s0
   source-before r s low lower high = go (source .apart)
     where
@@ -83,7 +82,7 @@ module _ {len at w h sat sw sh s0 g count : ℕ} (source : Source len at w h sat
           omega (arith, row-mono w s r lower, source .known)
 
   -- and are no entries of the panel
-  pub source-apart :
+  source-apart :
       (r k : ℕ) → s0 ≤ r → r < h → k < count → (r′ s′ : ℕ) → InPanel h s0 g r′ s′ →
       sat + rowStart sw (sh - h + r) + k ≢ at + rowStart w r′ + s′
   source-apart r k low high few r′ s′ there e = go (source .apart)
@@ -99,10 +98,10 @@ module _ {len at w h sat sw sh s0 g count : ℕ} (source : Source len at w h sat
           omega (arith, source .known, there .left)
 
   -- the panel's rows are within the memory
-  pub row-room : (r : ℕ) → s0 ≤ r → r < h → at + rowStart w r + s0 + min g (r + 1 - s0) ≤ len
+  row-room : (r : ℕ) → s0 ≤ r → r < h → at + rowStart w r + s0 + min g (r + 1 - s0) ≤ len
   row-room r low high = omega (arith, row-next w r, row-mono w (r + 1) h (omega arith), source .wide, source .room)
 
-  pub source-room : (r : ℕ) → s0 ≤ r → r < h → sat + rowStart sw (sh - h + r) + count ≤ len
+  source-room : (r : ℕ) → s0 ≤ r → r < h → sat + rowStart sw (sh - h + r) + count ≤ len
   source-room r low high = omega (arith, row-inside r low high, source .rows)
 
   -- what `pack` asks

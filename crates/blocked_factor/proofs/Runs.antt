@@ -34,7 +34,7 @@ is-true e = rw e tt
 not-true : {b : Bool} → b ≡ false → T b → ⊥
 not-true e t = rw e at t
 
-judge-success : (n : ℕ) (a : Triangle) (j : ℕ) → T (accepted (judgeColumn n a j)) → judgeColumn n a j ≡ success
+pub judge-success : (n : ℕ) (a : Triangle) (j : ℕ) → T (accepted (judgeColumn n a j)) → judgeColumn n a j ≡ success
 unfolding columnRules
 judge-success n a j t = first-success _ t
 

@@ -1,15 +1,15 @@
 // The blocked factor: block column by block column, each less the products of those before it, then finished column by column.
 ghost use mathlib.Core.Path.{_≡_};
-ghost use Prim.Native.Nat.{ℕ, _+_, _-_, _*_, _≤_, _<_};
+ghost use Prim.Native.Nat.{ℕ, _+_, _-_, _≤_, _<_};
 ghost use lib.ListN.{length, getD, replicate};
 ghost use lib.Ieee.{nan, binary64, div};
 ghost use Rattle.binary64.specs.Kinds.{zero64};
 ghost use Rattle.shape.specs.Bounds.{maxOrder};
-ghost use Rattle.shape.specs.Places.{triangle, blockStart, width, blockWork};
+ghost use Rattle.shape.specs.Places.{blockStart, width, blockWork};
 ghost use Rattle.calls.specs.Arithmetic.{minusProducts};
 ghost use Rattle.calls.specs.Calls.{DoneAs, factorize};
 ghost use Rattle.kernels.specs.Kernels.{Filled};
-ghost use Rattle.blocked_factor.specs.BlockColumns.{rowStart, rowAt, lessPanel, columnQuotient, ColumnFinished, RowsFinished, UnderFinished, PanelUpdated};
+ghost use Rattle.blocked_factor.specs.BlockColumns.{rowStart, rowAt, ColumnFinished, RowsFinished, UnderFinished, PanelUpdated};
 ghost use Rattle.blocked_factor.specs.BlockStages.{PanelFinished, ColumnsFactored};
 ghost use Rattle.blocked_factor.specs.BlockSteps.{BlockAt, BlockFactored, BlockDone, Saved, Sized, BlocksDone, rowOf};
 

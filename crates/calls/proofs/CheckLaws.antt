@@ -1,7 +1,7 @@
 -- Laws of the checks before any work: what an accepted rule, and an accepted check, says of its arguments. Assumes nothing.
 use Prim.Native.Nat.{ℕ, zero, suc, _*_, _≤_, _<_}
 use native.Mathlib.Omega.{arith}
-use mathlib.Core.Path.{_≡_}
+use mathlib.Core.Path.{_≡_, refl, sym, ap, _∙_}
 use mathlib.Core.Bool.{Bool, true, false, not, _&&_, _||_}
 use mathlib.Core.List.{List, [], _∷_, _++_}
 use lib.Dec.{T, ltb, eqb, nltb→le, eqb→eq}
@@ -17,7 +17,7 @@ use Rattle.calls.specs.declared.Call.the-variants.{Rearranger, Factor, S
 use Rattle.calls.specs.Sequences.{all}
 use Rattle.calls.specs.Triangles.{placeOf}
 use Rattle.calls.specs.Refusals.{success, accepted, refusal, refuseIf, firstRefusal, byBlocks, neededWork, rule1, rule2, rule3, rule4, rule5, rule6, rule7, rule8, finiteRule, rule9}
-use Rattle.calls.specs.Calls.{rearrangerChecks, factorChecks, solverChecks}
+use Rattle.calls.specs.Calls.{DoneAs, rearrangerChecks, factorChecks, solverChecks, factorize}
 use Rattle.calls.proofs.Sequences.{all-of}
 use Rattle.calls.proofs.Refusals.{not-not, refuse-not, not-refused, first-accepted, lowest-accepted}
 use Rattle.calls.proofs.Judging.{first-success, first-alone, lowest-all}
@@ -159,9 +159,14 @@ module _ (layout : Layout) (n b : ℕ) (matrix : List Float) (wl : ℕ) (h : T (
       let s = sizes-accepted (Factor layout) n b (length matrix) wl (rule7 matrix ∷ []) h in
       record { sizes = s .0; matrixFinite = finite-accepted 6 matrix (first-accepted (rule7 matrix) [] (s .1) .0) }
 
-  pub factor-success : factorChecks layout n b matrix wl ≡ success
-  unfolding factorChecks
-  factor-success = first-success _ h
+-- a factor after its checks
+module _ (layout : Layout) (n b : ℕ) (m w : List Float) (checks : CallResult) (e : checks ≡ factorChecks layout n b m (length w)) where
+  pub factor-refused : accepted checks ≡ false → DoneAs (factorize layout n b m w) checks m w
+  unfolding factorize
+  factor-refused f = rw (ap accepted (sym e) ∙ f) (record { result = e; matrix = refl; work = refl })
+
+  pub factor-passed : accepted checks ≡ true → FactorAccepted layout n b m (length w)
+  factor-passed t = factor-accepted layout n b m (length w) (rw (ap accepted (sym e) ∙ t) tt)
 
 module _ (layout : Layout) (n b m : ℕ) (matrix rhs : List Float) (wl : ℕ) (h : T (accepted (solverChecks layout n b m matrix rhs wl))) where
   pub solver-accepted : SolverAccepted layout n b m matrix rhs wl

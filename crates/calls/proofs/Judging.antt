@@ -8,6 +8,11 @@ use mathlib.Core.Bool.{Bool, true, false, cond, not}
 use mathlib.Core.List.{List, [], _∷_, _++_}
 use borrow.Author.Tests.{not-true, not-false, le-leb, lt-leb, le-ltb, lt-ltb}
 use lib.Dec.{T, leb, ltb}
+use lib.Ieee.{Float}
+use Rattle.binary64.specs.Kinds.{positive}
+use Rattle.binary64.specs.Root.{root}
+use Rattle.binary64.specs.Judged.{judged}
+use Rattle.binary64.specs.declared.Pivot.the-variants.{Root, Refused}
 use Rattle.calls.specs.declared.CallResult.{CallResult}
 use Rattle.calls.specs.Refusals.{success, accepted, firstRefusal, lowestRefusal}
 use Rattle.calls.proofs.Refusals.{lowest-accepted, lowest-success}
@@ -27,6 +32,16 @@ refused-of a r e h = sym e ∙ not-true a h
 
 pub accepted-of : (a : Bool) (r : CallResult) → a ≡ accepted r → not a ≡ false → accepted r ≡ true
 accepted-of a r e h = sym e ∙ not-false a h
+
+-- ---- a pivot
+
+pub judged-root : (x d : Float) → judged x ≡ Root d → d ≡ root x
+unfolding judged
+judged-root x d e = go (positive x) e
+  where
+    go : (b : Bool) → cond b (Root (root x)) (Refused x) ≡ Root d → d ≡ root x
+    go true e = cc
+    go false e = let z : _≡_ {A = ℕ} 0 1 = cc in absurd (omega arith)
 
 -- ---- the first of a list, judged in two parts
 

@@ -2,7 +2,9 @@
 use mathlib.Core.Path.{sym}
 use lib.Seq.{length-take-le}
 use Rattle.calls.proofs.Judging.{refused-of, accepted-of}
-use Rattle.blocked_factor.proofs.BlockOutcomes.{checks-refused, checks-accepted, work-fits, blocks-sized, blocks-done}
+use Rattle.calls.specs.declared.Layout.the-variants.{Blocked}
+use Rattle.calls.proofs.CheckLaws.{factor-refused, factor-passed}
+use Rattle.blocked_factor.proofs.BlockOutcomes.{work-fits, blocks-sized, blocks-done}
 use borrow.Author.Needs.{needs}
 use Rattle.blocked_factor.proofs.factor.Statement.{statement}
 use Rattle.blocked_factor.proofs.factor.Tie as tie
@@ -20,14 +22,14 @@ returns : tie.Need-returns
 returns c =
     let a = c .before .before .before .before .before .before .args in
     let checks = c .before .before .check-factor in
-    checks-refused (a .shape .order) (a .shape .block) (a .matrix .now) (a .work .now) (checks .result) (checks .ensures)
+    factor-refused Blocked (a .shape .order) (a .shape .block) (a .matrix .now) (a .work .now) (checks .result) (checks .ensures)
     (refused-of (c .before .accepted .result) (checks .result) (c .before .accepted .ensures) (c .if1 .taken))
 
 block-work-requires : tie.Need-block-work-requires
 block-work-requires c κs =
     let a = c .before .before .before .before .before .before .args in
     let checks = c .before .before .check-factor in
-    checks-accepted (a .shape .order) (a .shape .block) (a .matrix .now) (a .work .now) (checks .result) (checks .ensures)
+    factor-passed Blocked (a .shape .order) (a .shape .block) (a .matrix .now) (a .work .now) (checks .result) (checks .ensures)
     (accepted-of (c .before .accepted .result) (checks .result) (c .before .accepted .ensures) (c .if1 .left))
     .sizes .order
 

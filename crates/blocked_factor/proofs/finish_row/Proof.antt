@@ -1,5 +1,5 @@
 -- `blocked_factor::finish_row` meets its contract. Assumes nothing.
-use Prim.Native.Nat.{_+_, _-_}
+use Prim.Native.Nat.{_-_}
 use native.Mathlib.Omega.{arith}
 use mathlib.Core.Path.{ap}
 use lib.Ieee.{Float, binary64, div}

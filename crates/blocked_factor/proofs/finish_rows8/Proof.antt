@@ -2,7 +2,7 @@
 use Prim.Native.Nat.{ℕ, _+_}
 use native.Mathlib.Omega.{arith}
 use lib.ListN.{getD}
-use Rattle.blocked_factor.proofs.BlockRows.{row-mono, row-within}
+use Rattle.blocked_factor.proofs.BlockRows.{row-within}
 use Rattle.blocked_factor.proofs.Finishing.{eight-inside, eight-apart, rows-eight}
 use borrow.Author.Needs.{needs}
 use Rattle.blocked_factor.proofs.finish_rows8.Statement.{statement}

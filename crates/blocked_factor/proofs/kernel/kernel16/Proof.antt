@@ -1,7 +1,7 @@
 -- `blocked_factor::kernel::kernel16` meets its contract. Assumes nothing.
 use Prim.Native.Nat.{ℕ, _-_, _≤_, _<_}
 use native.Mathlib.Omega.{arith}
-use mathlib.Core.Path.{_≡_, refl, ap, sym, _∙_}
+use mathlib.Core.Path.{_≡_, ap, sym, _∙_}
 use lib.ListN.{getD}
 use lib.Ieee.{Float, nan, binary64, sub, mul}
 use Rattle.calls.specs.Arithmetic.{minusProducts}
