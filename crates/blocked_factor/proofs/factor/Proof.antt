@@ -35,27 +35,30 @@ block-work-requires c κs =
 
 slice-relend-prefix-factor-blocks-cleared : tie.Need-slice-relend-prefix-factor-blocks-cleared
 slice-relend-prefix-factor-blocks-cleared c =
+    let accepted = c .before .before .before .accepted in
     let a = c .before .before .before .before .before .before .before .before .args in
     let checks = c .before .before .before .before .check-factor in
     work-fits (a .shape .order) (a .shape .block) (a .matrix .now) (a .work .now) (checks .result) (checks .ensures)
-    (accepted-of (c .before .before .before .accepted .result) (checks .result) (c .before .before .before .accepted .ensures) (c .before .before .if1 .left))
+    (accepted-of (accepted .result) (checks .result) (accepted .ensures) (c .before .before .if1 .left))
     (c .before .block-work .result) (c .before .block-work .ensures)
 
 slice-aggregate-factor-blocks-cleared : tie.Need-slice-aggregate-factor-blocks-cleared
 slice-aggregate-factor-blocks-cleared c =
+    let accepted = c .before .before .before .before .accepted in
     let a = c .before .before .before .before .before .before .before .before .before .args in
     let checks = c .before .before .before .before .before .check-factor in
     sym (length-take-le (c .before .before .block-work .result) (a .work .now)
     (work-fits (a .shape .order) (a .shape .block) (a .matrix .now) (a .work .now) (checks .result) (checks .ensures)
-    (accepted-of (c .before .before .before .before .accepted .result) (checks .result) (c .before .before .before .before .accepted .ensures) (c .before .before .before .if1 .left))
+    (accepted-of (accepted .result) (checks .result) (accepted .ensures) (c .before .before .before .if1 .left))
     (c .before .before .block-work .result) (c .before .before .block-work .ensures)))
 
 factor-blocks-cleared-requires : tie.Need-factor-blocks-cleared-requires
 factor-blocks-cleared-requires c κs =
+    let accepted = c .before .before .before .before .accepted in
     let a = c .before .before .before .before .before .before .before .before .before .args in
     let checks = c .before .before .before .before .before .check-factor in
     blocks-sized (a .shape .order) (a .shape .block) (a .matrix .now) (a .work .now) (checks .result) (checks .ensures)
-    (accepted-of (c .before .before .before .before .accepted .result) (checks .result) (c .before .before .before .before .accepted .ensures) (c .before .before .before .if1 .left))
+    (accepted-of (accepted .result) (checks .result) (accepted .ensures) (c .before .before .before .if1 .left))
     (c .before .before .block-work .result) (c .before .before .block-work .ensures)
 
 same-length-2 : tie.Need-same-length-2
@@ -66,13 +69,15 @@ same-length-3 c = search needs
 
 returns-2 : tie.Need-returns-2
 returns-2 c =
+    let accepted = c .before .before .before .before .before .before .before .before .before .accepted in
+    let block-work = c .before .before .before .before .before .before .before .block-work in
     let a = c .before .before .before .before .before .before .before .before .before .before .before .before .before .before .args in
     let checks = c .before .before .before .before .before .before .before .before .before .before .check-factor in
     let done = c .before .before .before .before .factor-blocks-cleared in
     rw (done .ensures .1)
     (blocks-done (a .shape .order) (a .shape .block) (a .matrix .now) (a .work .now) (checks .result) (checks .ensures)
-    (accepted-of (c .before .before .before .before .before .before .before .before .before .accepted .result) (checks .result) (c .before .before .before .before .before .before .before .before .before .accepted .ensures) (c .before .before .before .before .before .before .before .before .if1 .left))
-    (c .before .before .before .before .before .before .before .block-work .result) (c .before .before .before .before .before .before .before .block-work .ensures) (done .result) (done .last .0) (done .ensures .0))
+    (accepted-of (accepted .result) (checks .result) (accepted .ensures) (c .before .before .before .before .before .before .before .before .if1 .left))
+    (block-work .result) (block-work .ensures) (done .result) (done .last .0) (done .ensures .0))
 
 pub factor-spec : {M : Type 1} → statement M
 factor-spec =

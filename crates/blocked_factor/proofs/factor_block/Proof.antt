@@ -25,42 +25,63 @@ least-requires : tie.Need-least-requires Inv-loop μ-loop
 least-requires c κs = search needs
 
 factor-panel-requires : tie.Need-factor-panel-requires Inv-loop μ-loop
-factor-panel-requires c κs = (
-  omega (arith, c .before .before .before .before .before .before .before .pre, c .before .before .least .ensures, c .before .before .before .loop-test .taken, c .before .before .before .before .loop .inv .2 .kept),
-  omega (arith, c .before .before .least .ensures),
-)
+factor-panel-requires c κs =
+    let pre = c .before .before .before .before .before .before .before .pre in
+    let l = c .before .before .before .before .loop in (
+      omega (arith, pre, c .before .before .least .ensures, c .before .before .before .loop-test .taken, l .inv .2 .kept),
+      omega (arith, c .before .before .least .ensures),
+    )
 
 accepted-requires : tie.Need-accepted-requires Inv-loop μ-loop
 accepted-requires c κs = search needs
 
 same-length : tie.Need-same-length Inv-loop μ-loop
-same-length c = c .before .before .before .before .before .before .factor-panel .ensures .kept ∙ c .before .before .before .before .before .before .before .before .before .before .before .loop .inv .2 .kept
+same-length c =
+    let l = c .before .before .before .before .before .before .before .before .before .before .before .loop in
+    c .before .before .before .before .before .before .factor-panel .ensures .kept ∙ l .inv .2 .kept
 
 same-length-2 : tie.Need-same-length-2 Inv-loop μ-loop
-same-length-2 c = c .before .before .before .before .before .before .factor-panel .kept .1 .0 ∙ c .before .before .before .before .before .before .before .before .before .before .before .loop .inv .1
+same-length-2 c =
+    let l = c .before .before .before .before .before .before .before .before .before .before .before .loop in
+    c .before .before .before .before .before .before .factor-panel .kept .1 .0 ∙ l .inv .1
 
 returns : tie.Need-returns Inv-loop μ-loop
 returns c =
+    let factor-panel = c .before .before .before .before .before .before .factor-panel in
+    let least = c .before .before .before .before .before .before .before .before .before .least in
     let a = c .before .before .before .before .before .before .before .before .before .before .before .before .before .before .args in
     let l = c .before .before .before .before .before .before .before .before .before .before .before .loop in
-    factored-refused (a .c) (a .width) (a .rows) (l .s0) (l .s0 + c .before .before .before .before .before .before .before .before .before .least .result) (a .part .now) (l .part) _ (c .before .before .before .before .before .before .factor-panel .result) (l .inv .2) (c .before .before .before .before .before .before .factor-panel .ensures)
-    (omega (arith, c .before .before .before .before .before .before .before .before .before .least .ensures, c .before .before .before .before .before .before .before .before .before .before .loop-test .taken))
-    (refused-of (c .before .accepted .result) (c .before .before .before .before .before .before .factor-panel .result) (c .before .accepted .ensures) (c .if1 .taken))
+    factored-refused (a .c) (a .width) (a .rows) (l .s0) (l .s0 + least .result) (a .part .now) (l .part) _ (factor-panel .result) (l .inv .2) (factor-panel .ensures)
+    (omega (arith, least .ensures, c .before .before .before .before .before .before .before .before .before .before .loop-test .taken))
+    (refused-of (c .before .accepted .result) (factor-panel .result) (c .before .accepted .ensures) (c .if1 .taken))
 
 add-s0 : tie.Need-add-s0 Inv-loop μ-loop
-add-s0 c = omega (arith, c .before .before .before .before .before .before .before .before .before .before .before .before .before .before .pre, c .before .before .before .before .before .before .before .before .before .least .ensures, c .before .before .before .before .before .before .before .before .before .before .loop-test .taken)
+add-s0 c =
+    let pre = c .before .before .before .before .before .before .before .before .before .before .before .before .before .before .pre in
+    omega (
+      arith,
+      pre,
+      c .before .before .before .before .before .before .before .before .before .least .ensures,
+      c .before .before .before .before .before .before .before .before .before .before .loop-test .taken,
+    )
 
 loop-less : tie.Need-loop-less Inv-loop μ-loop
-loop-less c = omega (arith, c .before .before .before .before .before .before .before .before .before .least .ensures, c .before .before .before .before .before .before .before .before .before .before .loop-test .taken)
+loop-less c = omega (
+  arith,
+  c .before .before .before .before .before .before .before .before .before .least .ensures,
+  c .before .before .before .before .before .before .before .before .before .before .loop-test .taken,
+)
 
 loop-again : tie.Need-loop-again Inv-loop μ-loop
 loop-again c =
+    let factor-panel = c .before .before .before .before .before .before .factor-panel in
+    let least = c .before .before .before .before .before .before .before .before .before .least in
     let a = c .before .before .before .before .before .before .before .before .before .before .before .before .before .before .args in
     let l = c .before .before .before .before .before .before .before .before .before .before .before .loop in (
-      omega (arith, c .before .before .before .before .before .before .before .before .before .least .ensures, c .before .before .before .before .before .before .before .before .before .before .loop-test .taken),
-      (c .before .before .before .before .before .before .factor-panel .kept .1 .0 ∙ l .inv .1),
-      running-panel (a .c) (a .width) (a .rows) (l .s0) (l .s0 + c .before .before .before .before .before .before .before .before .before .least .result) (a .part .now) (l .part) _ (c .before .before .before .before .before .before .factor-panel .result) (l .inv .2) (c .before .before .before .before .before .before .factor-panel .ensures)
-          (accepted-of (c .before .accepted .result) (c .before .before .before .before .before .before .factor-panel .result) (c .before .accepted .ensures) (c .if1 .left)),
+      omega (arith, least .ensures, c .before .before .before .before .before .before .before .before .before .before .loop-test .taken),
+      (factor-panel .kept .1 .0 ∙ l .inv .1),
+      running-panel (a .c) (a .width) (a .rows) (l .s0) (l .s0 + least .result) (a .part .now) (l .part) _ (factor-panel .result) (l .inv .2) (factor-panel .ensures)
+          (accepted-of (c .before .accepted .result) (factor-panel .result) (c .before .accepted .ensures) (c .if1 .left)),
     )
 
 refusal-requires : tie.Need-refusal-requires Inv-loop μ-loop

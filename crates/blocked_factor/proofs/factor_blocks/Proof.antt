@@ -22,45 +22,78 @@ loop-holds c = (omega arith, (λ h. omega (arith, block-of-le (c .before .before
 
 factor-step-requires : tie.Need-factor-step-requires Inv-loop μ-loop
 factor-step-requires c κs =
+    let pre = c .before .before .before .before .before .before .pre in
     let l = c .before .before .before .loop in
-    (block-at (l .c) _ (c .before .before .before .before .before .before .pre) (l .inv .3 .kept) (c .before .before .loop-test .taken) (l .inv .1 (c .before .before .loop-test .taken)), (l .inv .2 ∙ c .before .before .before .before .before .before .pre .work))
+    (block-at (l .c) _ (pre) (l .inv .3 .kept) (c .before .before .loop-test .taken) (l .inv .1 (c .before .before .loop-test .taken)), (l .inv .2 ∙ pre .work))
 
 accepted-requires : tie.Need-accepted-requires Inv-loop μ-loop
 accepted-requires c κs = search needs
 
 same-length : tie.Need-same-length Inv-loop μ-loop
-same-length c = c .before .before .before .before .before .before .factor-step .ensures .kept ∙ c .before .before .before .before .before .before .before .before .before .before .loop .inv .3 .kept
+same-length c =
+    let l = c .before .before .before .before .before .before .before .before .before .before .loop in
+    c .before .before .before .before .before .before .factor-step .ensures .kept ∙ l .inv .3 .kept
 
 same-length-2 : tie.Need-same-length-2 Inv-loop μ-loop
-same-length-2 c = c .before .before .before .before .before .before .factor-step .kept .1 .0 ∙ c .before .before .before .before .before .before .before .before .before .before .loop .inv .2
+same-length-2 c =
+    let l = c .before .before .before .before .before .before .before .before .before .before .loop in
+    c .before .before .before .before .before .before .factor-step .kept .1 .0 ∙ l .inv .2
 
 returns : tie.Need-returns Inv-loop μ-loop
 returns c =
+    let factor-step = c .before .before .before .before .before .before .factor-step in
+    let loop-test = c .before .before .before .before .before .before .before .before .before .loop-test in
+    let pre = c .before .before .before .before .before .before .before .before .before .before .before .before .before .pre in
     let a = c .before .before .before .before .before .before .before .before .before .before .before .before .before .args in
     let l = c .before .before .before .before .before .before .before .before .before .before .loop in
-    blocks-refused (a .m .now) (l .m) _ (c .before .before .before .before .before .before .factor-step .result) (block-at (l .c) _ (c .before .before .before .before .before .before .before .before .before .before .before .before .before .pre) (l .inv .3 .kept) (c .before .before .before .before .before .before .before .before .before .loop-test .taken) (l .inv .1 (c .before .before .before .before .before .before .before .before .before .loop-test .taken))) (l .inv .3) (c .before .before .before .before .before .before .factor-step .ensures)
-    (refused-of (c .before .accepted .result) (c .before .before .before .before .before .before .factor-step .result) (c .before .accepted .ensures) (c .if1 .taken))
+    blocks-refused (a .m .now) (l .m) _ (factor-step .result) (block-at (l .c) _ (pre) (l .inv .3 .kept) (loop-test .taken) (l .inv .1 (loop-test .taken))) (l .inv .3) (factor-step .ensures)
+    (refused-of (c .before .accepted .result) (factor-step .result) (c .before .accepted .ensures) (c .if1 .taken))
 
 block-width-requires : tie.Need-block-width-requires Inv-loop μ-loop
 block-width-requires c κs = omega (arith, c .before .before .before .before .before .before .before .before .before .loop-test .taken)
 
 add-next : tie.Need-add-next Inv-loop μ-loop
-add-next c = omega (arith, c .before .before .before .before .before .before .before .before .before .before .before .before .before .before .pre .order, c .block-width .ensures, width-le (c .before .before .before .before .before .before .before .before .before .before .before .before .before .before .args .shape .order) (c .before .before .before .before .before .before .before .before .before .before .before .before .before .before .args .shape .block) (c .before .before .before .before .before .before .before .before .before .before .before .loop .c), c .before .before .before .before .before .before .before .before .before .before .loop-test .taken)
+add-next c =
+    let a = c .before .before .before .before .before .before .before .before .before .before .before .before .before .before .args in
+    let pre = c .before .before .before .before .before .before .before .before .before .before .before .before .before .before .pre in
+    let l = c .before .before .before .before .before .before .before .before .before .before .before .loop in
+    omega (
+      arith,
+      pre .order,
+      c .block-width .ensures,
+      width-le (a .shape .order) (a .shape .block) (l .c),
+      c .before .before .before .before .before .before .before .before .before .before .loop-test .taken,
+    )
 
 loop-less : tie.Need-loop-less Inv-loop μ-loop
-loop-less c = omega (arith, c .before .before .before .before .before .before .before .before .before .before .before .before .before .before .pre .block, c .block-width .ensures, width-pos (c .before .before .before .before .before .before .before .before .before .before .before .before .before .before .args .shape .order) (c .before .before .before .before .before .before .before .before .before .before .before .before .before .before .args .shape .block) (c .before .before .before .before .before .before .before .before .before .before .before .loop .c) (c .before .before .before .before .before .before .before .before .before .before .before .before .before .before .pre .block) (c .before .before .before .before .before .before .before .before .before .before .loop-test .taken), width-le (c .before .before .before .before .before .before .before .before .before .before .before .before .before .before .args .shape .order) (c .before .before .before .before .before .before .before .before .before .before .before .before .before .before .args .shape .block) (c .before .before .before .before .before .before .before .before .before .before .before .loop .c), c .before .before .before .before .before .before .before .before .before .before .loop-test .taken)
+loop-less c =
+    let a = c .before .before .before .before .before .before .before .before .before .before .before .before .before .before .args in
+    let pre = c .before .before .before .before .before .before .before .before .before .before .before .before .before .before .pre in
+    let l = c .before .before .before .before .before .before .before .before .before .before .before .loop in
+    let loop-test = c .before .before .before .before .before .before .before .before .before .before .loop-test in
+    omega (
+      arith,
+      pre .block,
+      c .block-width .ensures,
+      width-pos (a .shape .order) (a .shape .block) (l .c) (pre .block) (loop-test .taken),
+      width-le (a .shape .order) (a .shape .block) (l .c),
+      loop-test .taken,
+    )
 
 loop-again : tie.Need-loop-again Inv-loop μ-loop
 loop-again c =
+    let factor-step = c .before .before .before .before .before .before .before .factor-step in
+    let loop-test = c .before .before .before .before .before .before .before .before .before .before .loop-test in
+    let pre = c .before .before .before .before .before .before .before .before .before .before .before .before .before .before .pre in
     let a = c .before .before .before .before .before .before .before .before .before .before .before .before .before .before .args in
     let l = c .before .before .before .before .before .before .before .before .before .before .before .loop in
-    let here = block-at (l .c) (length (l .m)) (c .before .before .before .before .before .before .before .before .before .before .before .before .before .before .pre) (l .inv .3 .kept) (c .before .before .before .before .before .before .before .before .before .before .loop-test .taken) (l .inv .1 (c .before .before .before .before .before .before .before .before .before .before .loop-test .taken)) in
+    let here = block-at (l .c) (length (l .m)) (pre) (l .inv .3 .kept) (loop-test .taken) (l .inv .1 (loop-test .taken)) in
     rw (c .block-width .ensures) (
-      omega (arith, width-le (a .shape .order) (a .shape .block) (l .c), c .before .before .before .before .before .before .before .before .before .before .loop-test .taken),
+      omega (arith, width-le (a .shape .order) (a .shape .block) (l .c), loop-test .taken),
       (λ inside. next-first here inside),
-      (c .before .before .before .before .before .before .before .factor-step .kept .1 .0 ∙ l .inv .2),
-      reached-next (a .m .now) (l .m) _ (c .before .before .before .before .before .before .before .factor-step .result) here (l .inv .3) (c .before .before .before .before .before .before .before .factor-step .ensures)
-          (accepted-of (c .before .before .accepted .result) (c .before .before .before .before .before .before .before .factor-step .result) (c .before .before .accepted .ensures) (c .before .if1 .left)),
+      (factor-step .kept .1 .0 ∙ l .inv .2),
+      reached-next (a .m .now) (l .m) _ (factor-step .result) here (l .inv .3) (factor-step .ensures)
+          (accepted-of (c .before .before .accepted .result) (factor-step .result) (c .before .before .accepted .ensures) (c .before .if1 .left)),
     )
 
 refusal-requires : tie.Need-refusal-requires Inv-loop μ-loop

@@ -19,7 +19,10 @@ same-length-2 : tie.Need-same-length-2
 same-length-2 c = search needs
 
 returns : tie.Need-returns
-returns c = (c .before .before .before .before .before .before .before .before .factor-blocks .ensures, c .before .before .clear .ensures ∙ ap (λ k. replicate k zero64) (c .before .before .before .before .before .before .before .before .factor-blocks .kept .1 .0 ∙ c .before .before .before .before .before .before .before .before .before .before .before .before .before .pre .work))
+returns c =
+    let factor-blocks = c .before .before .before .before .before .before .before .before .factor-blocks in
+    let pre = c .before .before .before .before .before .before .before .before .before .before .before .before .before .pre in
+    (factor-blocks .ensures, c .before .before .clear .ensures ∙ ap (λ k. replicate k zero64) (factor-blocks .kept .1 .0 ∙ pre .work))
 
 pub factor-blocks-cleared-spec : {M : Type 1} → statement M
 factor-blocks-cleared-spec =

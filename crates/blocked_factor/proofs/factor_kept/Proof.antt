@@ -28,8 +28,9 @@ same-length-2 c = search needs
 
 returns : tie.Need-returns
 returns c =
+    let pre = c .before .before .before .before .before .before .before .before .before .pre in
     let a = c .before .before .before .before .before .before .before .before .before .args in
-    (c .before .before .before .before .factor-part .ensures, (λ p low. whole-before (a .work .now) _ (a .size) p (c .before .before .before .before .before .before .before .before .before .pre .1) low))
+    (c .before .before .before .before .factor-part .ensures, (λ p low. whole-before (a .work .now) _ (a .size) p (pre .1) low))
 
 pub factor-kept-spec : {M : Type 1} → statement M
 factor-kept-spec =

@@ -8,8 +8,9 @@ use Rattle.blocked_factor.proofs.factor_panel.Tie as tie
 
 update-panel-requires : tie.Need-update-panel-requires
 update-panel-requires c κs =
+    let pre = c .before .before .before .before .pre in
     let a = c .before .before .before .before .args in
-    (own-source _ (a .width) (a .rows) (a .s0) (a .g) (omega (arith, c .before .before .before .before .pre)) (omega (arith, c .before .before .before .before .pre)) (omega (arith, c .before .before .before .before .pre)) (omega (arith, c .before .before .before .before .pre)), c .before .before .before .before .pre .1)
+    (own-source _ (a .width) (a .rows) (a .s0) (a .g) (omega (arith, pre)) (omega (arith, pre)) (omega (arith, pre)) (omega (arith, pre)), pre .1)
 
 add-finish-panel : tie.Need-add-finish-panel
 add-finish-panel c = search needs
@@ -25,8 +26,13 @@ same-length-2 c = search needs
 
 returns : tie.Need-returns
 returns c =
+    let finish-panel = c .before .before .finish-panel in
+    let pre = c .before .before .before .before .before .before .before .before .before .before .before .before .before .pre in
     let a = c .before .before .before .before .before .before .before .before .before .before .before .before .before .args in
-    panel-factored (a .c) (a .width) (a .rows) (a .s0) (a .g) (a .part .now) _ _ (c .before .before .finish-panel .result) (omega (arith, c .before .before .before .before .before .before .before .before .before .before .before .before .before .pre)) (omega (arith, c .before .before .before .before .before .before .before .before .before .before .before .before .before .pre)) (c .before .before .before .before .before .before .before .before .update-panel .ensures) (c .before .before .finish-panel .ensures)
+    panel-factored (a .c) (a .width) (a .rows) (a .s0) (a .g) (a .part .now) _ _ (finish-panel .result) (omega (
+      arith,
+      pre,
+    )) (omega (arith, pre)) (c .before .before .before .before .before .before .before .before .update-panel .ensures) (finish-panel .ensures)
 
 pub factor-panel-spec : {M : Type 1} → statement M
 factor-panel-spec =

@@ -15,22 +15,52 @@ place-in-block-requires : tie.Need-place-in-block-requires
 place-in-block-requires c κs = search needs
 
 add-y : tie.Need-add-y
-add-y c = omega (arith, c .before .before .pre, c .place-in-block .ensures, row-within (c .before .before .args .width) (c .before .before .args .s) (c .before .before .args .rows) (omega (arith, c .before .before .pre)), c .before .before .good)
+add-y c = omega (
+  arith,
+  c .before .before .pre,
+  c .place-in-block .ensures,
+  row-within (c .before .before .args .width) (c .before .before .args .s) (c .before .before .args .rows) (omega (arith, c .before .before .pre)),
+  c .before .before .good,
+)
 
 sub-count : tie.Need-sub-count
 sub-count c = search needs
 
 add-minus-products : tie.Need-add-minus-products
-add-minus-products c = omega (arith, c .before .before .before .pre, c .before .place-in-block .ensures, row-within (c .before .before .before .args .width) (c .before .before .before .args .s) (c .before .before .before .args .rows) (omega (arith, c .before .before .before .pre)), c .before .before .before .good)
+add-minus-products c =
+    let a = c .before .before .before .args in
+    let pre = c .before .before .before .pre in
+    omega (
+      arith,
+      pre,
+      c .before .place-in-block .ensures,
+      row-within (a .width) (a .s) (a .rows) (omega (arith, pre)),
+      c .before .before .before .good,
+    )
 
 mul-minus-products : tie.Need-mul-minus-products
-mul-minus-products c = omega (arith, c .before .before .before .pre, c .before .place-in-block .ensures, row-within (c .before .before .before .args .width) (c .before .before .before .args .s) (c .before .before .before .args .rows) (omega (arith, c .before .before .before .pre)), c .before .before .before .good)
+mul-minus-products c =
+    let a = c .before .before .before .args in
+    let pre = c .before .before .before .pre in
+    omega (
+      arith,
+      pre,
+      c .before .place-in-block .ensures,
+      row-within (a .width) (a .s) (a .rows) (omega (arith, pre)),
+      c .before .before .before .good,
+    )
 
 slice-reshared-read-minus-products : tie.Need-slice-reshared-read-minus-products
-slice-reshared-read-minus-products c = omega (arith, c .before .before .before .pre, c .before .place-in-block .ensures, row-within (c .before .before .before .args .width) (c .before .before .before .args .s) (c .before .before .before .args .rows) (omega (arith, c .before .before .before .pre)))
+slice-reshared-read-minus-products c =
+    let a = c .before .before .before .args in
+    let pre = c .before .before .before .pre in
+    omega (arith, pre, c .before .place-in-block .ensures, row-within (a .width) (a .s) (a .rows) (omega (arith, pre)))
 
 minus-products-requires : tie.Need-minus-products-requires
-minus-products-requires c κs = omega (arith, c .before .before .before .pre, c .before .place-in-block .ensures, row-within (c .before .before .before .args .width) (c .before .before .before .args .s) (c .before .before .before .args .rows) (omega (arith, c .before .before .before .pre)))
+minus-products-requires c κs =
+    let a = c .before .before .before .args in
+    let pre = c .before .before .before .pre in
+    omega (arith, pre, c .before .place-in-block .ensures, row-within (a .width) (a .s) (a .rows) (omega (arith, pre)))
 
 judge-requires : tie.Need-judge-requires
 judge-requires c κs = search needs
@@ -48,13 +78,40 @@ finish-rows-requires : tie.Need-finish-rows-requires
 finish-rows-requires c κs = search needs
 
 add-part : tie.Need-add-part
-add-part c = omega (arith, c .before .before .before .before .before .before .before .before .before .before .before .before .before .pre, c .before .before .before .before .before .before .before .before .before .before .before .place-in-block .ensures, row-within (c .before .before .before .before .before .before .before .before .before .before .before .before .before .args .width) (c .before .before .before .before .before .before .before .before .before .before .before .before .before .args .s) (c .before .before .before .before .before .before .before .before .before .before .before .before .before .args .rows) (omega (arith, c .before .before .before .before .before .before .before .before .before .before .before .before .before .pre)), c .before .before .before .before .before .before .before .before .before .before .before .before .before .good)
+add-part c =
+    let a = c .before .before .before .before .before .before .before .before .before .before .before .before .before .args in
+    let pre = c .before .before .before .before .before .before .before .before .before .before .before .before .before .pre in
+    omega (
+      arith,
+      pre,
+      c .before .before .before .before .before .before .before .before .before .before .before .place-in-block .ensures,
+      row-within (a .width) (a .s) (a .rows) (omega (arith, pre)),
+      c .before .before .before .before .before .before .before .before .before .before .before .before .before .good,
+    )
 
 mul-part : tie.Need-mul-part
-mul-part c = omega (arith, c .before .before .before .before .before .before .before .before .before .before .before .before .before .pre, c .before .before .before .before .before .before .before .before .before .before .before .place-in-block .ensures, row-within (c .before .before .before .before .before .before .before .before .before .before .before .before .before .args .width) (c .before .before .before .before .before .before .before .before .before .before .before .before .before .args .s) (c .before .before .before .before .before .before .before .before .before .before .before .before .before .args .rows) (omega (arith, c .before .before .before .before .before .before .before .before .before .before .before .before .before .pre)), c .before .before .before .before .before .before .before .before .before .before .before .before .before .good)
+mul-part c =
+    let a = c .before .before .before .before .before .before .before .before .before .before .before .before .before .args in
+    let pre = c .before .before .before .before .before .before .before .before .before .before .before .before .before .pre in
+    omega (
+      arith,
+      pre,
+      c .before .before .before .before .before .before .before .before .before .before .before .place-in-block .ensures,
+      row-within (a .width) (a .s) (a .rows) (omega (arith, pre)),
+      c .before .before .before .before .before .before .before .before .before .before .before .before .before .good,
+    )
 
 slice-write-part : tie.Need-slice-write-part
-slice-write-part c = omega (arith, c .before .before .before .before .before .before .before .before .before .before .before .before .before .pre, c .before .before .before .before .before .before .before .before .before .before .before .place-in-block .ensures, c .before .before .before .finish-rows .ensures .kept, row-within (c .before .before .before .before .before .before .before .before .before .before .before .before .before .args .width) (c .before .before .before .before .before .before .before .before .before .before .before .before .before .args .s) (c .before .before .before .before .before .before .before .before .before .before .before .before .before .args .rows) (omega (arith, c .before .before .before .before .before .before .before .before .before .before .before .before .before .pre)))
+slice-write-part c =
+    let a = c .before .before .before .before .before .before .before .before .before .before .before .before .before .args in
+    let pre = c .before .before .before .before .before .before .before .before .before .before .before .before .before .pre in
+    omega (
+      arith,
+      pre,
+      c .before .before .before .before .before .before .before .before .before .before .before .place-in-block .ensures,
+      c .before .before .before .finish-rows .ensures .kept,
+      row-within (a .width) (a .s) (a .rows) (omega (arith, pre)),
+    )
 
 add-t28 : tie.Need-add-t28
 add-t28 c = search needs
@@ -64,9 +121,15 @@ same-length c = search needs
 
 returns : tie.Need-returns
 returns c =
+    let place-in-block = c .before .before .before .before .before .before .place-in-block in
+    let minus-products = c .before .before .before .before .minus-products in
+    let pre = c .before .before .before .before .before .before .before .before .pre in
     let a = c .before .before .before .before .before .before .before .before .args in
     column-pivot-refused (a .c) (a .width) (a .rows) (a .s0) (a .s) (a .part .now) _
-    (ap judged (sym (pivot-less (a .width) (a .s0) (a .s) (c .before .before .before .before .before .before .place-in-block .result) (a .part .now) (c .before .before .before .before .minus-products .result) (c .before .before .before .before .before .before .place-in-block .ensures) (omega (arith, c .before .before .before .before .before .before .before .before .pre)) (c .before .before .before .before .minus-products .ensures)))
+    (ap judged (sym (pivot-less (a .width) (a .s0) (a .s) (place-in-block .result) (a .part .now) (minus-products .result) (place-in-block .ensures) (omega (
+      arith,
+      pre,
+    )) (minus-products .ensures)))
     ∙ sym (c .before .before .before .judge .ensures) ∙ c .before .value .given .1)
 
 same-length-2 : tie.Need-same-length-2
@@ -75,13 +138,21 @@ same-length-2 c = search needs
 returns-2 : tie.Need-returns-2
 unfolding ofBits
 returns-2 c =
+    let pre = c .before .before .before .before .before .before .before .before .before .before .before .before .before .pre in
+    let place-in-block = c .before .before .before .before .before .before .before .before .before .before .before .place-in-block in
+    let root = c .before .before .before .before .before .before .root in
+    let finish-rows = c .before .before .before .finish-rows in
+    let minus-products = c .before .before .before .before .before .before .before .before .before .minus-products in
     let a = c .before .before .before .before .before .before .before .before .before .before .before .before .before .args in
-    let place : c .before .before .before .before .before .before .before .before .before .before .before .place-in-block .result + a .s0 + (a .s - a .s0) ≡ rowStart (a .width) (a .s) + a .s = omega (arith, c .before .before .before .before .before .before .before .before .before .before .before .place-in-block .ensures, c .before .before .before .before .before .before .before .before .before .before .before .before .before .pre) in
+    let place : place-in-block .result + a .s0 + (a .s - a .s0) ≡ rowStart (a .width) (a .s) + a .s = omega (arith, place-in-block .ensures, pre) in
     rw place
-    (column-accepted (a .c) (a .width) (a .rows) (a .s0) (a .s) (a .part .now) (c .before .before .before .before .before .before .root .given .0 .0) (c .before .before .before .finish-rows .last .0)
-    (ap judged (sym (pivot-less (a .width) (a .s0) (a .s) (c .before .before .before .before .before .before .before .before .before .before .before .place-in-block .result) (a .part .now) (c .before .before .before .before .before .before .before .before .before .minus-products .result) (c .before .before .before .before .before .before .before .before .before .before .before .place-in-block .ensures) (omega (arith, c .before .before .before .before .before .before .before .before .before .before .before .before .before .pre)) (c .before .before .before .before .before .before .before .before .before .minus-products .ensures)))
-    ∙ sym (c .before .before .before .before .before .before .before .before .judge .ensures) ∙ c .before .before .before .before .before .before .root .given .1)
-    (omega (arith, c .before .before .before .before .before .before .before .before .before .before .before .before .before .pre)) (omega (arith, c .before .before .before .before .before .before .before .before .before .before .before .before .before .pre)) (omega (arith, c .before .before .before .before .before .before .before .before .before .before .before .before .before .pre)) (rw (c .if1 .taken) at (c .before .before .before .finish-rows .ensures)))
+    (column-accepted (a .c) (a .width) (a .rows) (a .s0) (a .s) (a .part .now) (root .given .0 .0) (finish-rows .last .0)
+    (ap judged (sym (pivot-less (a .width) (a .s0) (a .s) (place-in-block .result) (a .part .now) (minus-products .result) (place-in-block .ensures) (omega (
+      arith,
+      pre,
+    )) (minus-products .ensures)))
+    ∙ sym (c .before .before .before .before .before .before .before .before .judge .ensures) ∙ root .given .1)
+    (omega (arith, pre)) (omega (arith, pre)) (omega (arith, pre)) (rw (c .if1 .taken) at (finish-rows .ensures)))
 
 same-length-3 : tie.Need-same-length-3
 same-length-3 c = search needs
@@ -89,11 +160,19 @@ same-length-3 c = search needs
 returns-3 : tie.Need-returns-3
 unfolding ofBits
 returns-3 c =
+    let root = c .before .before .before .before .before .before .root in
+    let finish-rows = c .before .before .before .finish-rows in
+    let place-in-block = c .before .before .before .before .before .before .before .before .before .before .before .place-in-block in
+    let minus-products = c .before .before .before .before .before .before .before .before .before .minus-products in
+    let pre = c .before .before .before .before .before .before .before .before .before .before .before .before .before .pre in
     let a = c .before .before .before .before .before .before .before .before .before .before .before .before .before .args in
-    column-rows-refused (a .c) (a .width) (a .rows) (a .s0) (a .s) (a .part .now) (c .before .before .before .before .before .before .root .given .0 .0) (c .before .before .before .finish-rows .last .0)
-    (ap judged (sym (pivot-less (a .width) (a .s0) (a .s) (c .before .before .before .before .before .before .before .before .before .before .before .place-in-block .result) (a .part .now) (c .before .before .before .before .before .before .before .before .before .minus-products .result) (c .before .before .before .before .before .before .before .before .before .before .before .place-in-block .ensures) (omega (arith, c .before .before .before .before .before .before .before .before .before .before .before .before .before .pre)) (c .before .before .before .before .before .before .before .before .before .minus-products .ensures)))
-    ∙ sym (c .before .before .before .before .before .before .before .before .judge .ensures) ∙ c .before .before .before .before .before .before .root .given .1)
-    (rw (c .if1 .left) at (c .before .before .before .finish-rows .ensures))
+    column-rows-refused (a .c) (a .width) (a .rows) (a .s0) (a .s) (a .part .now) (root .given .0 .0) (finish-rows .last .0)
+    (ap judged (sym (pivot-less (a .width) (a .s0) (a .s) (place-in-block .result) (a .part .now) (minus-products .result) (place-in-block .ensures) (omega (
+      arith,
+      pre,
+    )) (minus-products .ensures)))
+    ∙ sym (c .before .before .before .before .before .before .before .before .judge .ensures) ∙ root .given .1)
+    (rw (c .if1 .left) at (finish-rows .ensures))
 
 pub finish-column-spec : {M : Type 1} → statement M
 finish-column-spec =

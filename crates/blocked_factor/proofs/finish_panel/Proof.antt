@@ -19,37 +19,48 @@ loop-holds : tie.Need-loop-holds Inv-loop μ-loop
 loop-holds c = (le-refl _, omega (arith, c .before .pre), running-none _ _ _ _ _ _)
 
 finish-column-requires : tie.Need-finish-column-requires Inv-loop μ-loop
-finish-column-requires c κs = omega (arith, c .before .before .before .before .pre, c .before .loop-test .taken, c .before .before .loop .inv .0, c .before .before .loop .inv .2 .kept)
+finish-column-requires c κs =
+    let pre = c .before .before .before .before .pre in
+    omega (arith, pre, c .before .loop-test .taken, c .before .before .loop .inv .0, c .before .before .loop .inv .2 .kept)
 
 accepted-requires : tie.Need-accepted-requires Inv-loop μ-loop
 accepted-requires c κs = search needs
 
 same-length : tie.Need-same-length Inv-loop μ-loop
-same-length c = c .before .before .before .before .finish-column .ensures .kept ∙ c .before .before .before .before .before .before .before .loop .inv .2 .kept
+same-length c =
+    let l = c .before .before .before .before .before .before .before .loop in
+    c .before .before .before .before .finish-column .ensures .kept ∙ l .inv .2 .kept
 
 returns : tie.Need-returns Inv-loop μ-loop
 returns c =
+    let finish-column = c .before .before .before .before .finish-column in
+    let pre = c .before .before .before .before .before .before .before .before .before .pre in
     let a = c .before .before .before .before .before .before .before .before .before .args in
     let l = c .before .before .before .before .before .before .before .loop in
-    finished-refused (a .c) (a .width) (a .rows) (a .s0) (a .e) (l .s) (a .part .now) (l .part) _ (c .before .before .before .before .finish-column .result) (l .inv .2) (l .inv .0) (c .before .before .before .before .before .before .loop-test .taken)
-    (omega (arith, c .before .before .before .before .before .before .before .before .before .pre)) (omega (arith, c .before .before .before .before .before .before .before .before .before .pre)) (c .before .before .before .before .finish-column .ensures)
-    (refused-of (c .before .accepted .result) (c .before .before .before .before .finish-column .result) (c .before .accepted .ensures) (c .if1 .taken))
+    finished-refused (a .c) (a .width) (a .rows) (a .s0) (a .e) (l .s) (a .part .now) (l .part) _ (finish-column .result) (l .inv .2) (l .inv .0) (c .before .before .before .before .before .before .loop-test .taken)
+    (omega (arith, pre)) (omega (arith, pre)) (finish-column .ensures)
+    (refused-of (c .before .accepted .result) (finish-column .result) (c .before .accepted .ensures) (c .if1 .taken))
 
 add-s : tie.Need-add-s Inv-loop μ-loop
-add-s c = omega (arith, c .before .before .before .before .before .before .before .before .before .pre, c .before .before .before .before .before .before .loop-test .taken)
+add-s c =
+    let pre = c .before .before .before .before .before .before .before .before .before .pre in
+    omega (arith, pre, c .before .before .before .before .before .before .loop-test .taken)
 
 loop-less : tie.Need-loop-less Inv-loop μ-loop
 loop-less c = omega (arith, c .before .before .before .before .before .before .loop-test .taken)
 
 loop-again : tie.Need-loop-again Inv-loop μ-loop
 loop-again c =
+    let finish-column = c .before .before .before .before .finish-column in
+    let loop-test = c .before .before .before .before .before .before .loop-test in
+    let pre = c .before .before .before .before .before .before .before .before .before .pre in
     let a = c .before .before .before .before .before .before .before .before .before .args in
     let l = c .before .before .before .before .before .before .before .loop in (
       omega (arith, l .inv .0),
-      omega (arith, c .before .before .before .before .before .before .loop-test .taken),
-      running-column (a .c) (a .width) (a .rows) (a .s0) (a .e) (l .s) (a .part .now) (l .part) _ (c .before .before .before .before .finish-column .result) (l .inv .2) (l .inv .0) (c .before .before .before .before .before .before .loop-test .taken)
-          (omega (arith, c .before .before .before .before .before .before .before .before .before .pre)) (omega (arith, c .before .before .before .before .before .before .before .before .before .pre)) (c .before .before .before .before .finish-column .ensures)
-          (accepted-of (c .before .accepted .result) (c .before .before .before .before .finish-column .result) (c .before .accepted .ensures) (c .if1 .left)),
+      omega (arith, loop-test .taken),
+      running-column (a .c) (a .width) (a .rows) (a .s0) (a .e) (l .s) (a .part .now) (l .part) _ (finish-column .result) (l .inv .2) (l .inv .0) (loop-test .taken)
+          (omega (arith, pre)) (omega (arith, pre)) (finish-column .ensures)
+          (accepted-of (c .before .accepted .result) (finish-column .result) (c .before .accepted .ensures) (c .if1 .left)),
     )
 
 refusal-requires : tie.Need-refusal-requires Inv-loop μ-loop

@@ -24,7 +24,18 @@ sub-if1 : tie.Need-sub-if1 Inv-loop μ-loop
 sub-if1 c = omega (arith, c .loop-test .taken)
 
 finish-rows8-requires : tie.Need-finish-rows8-requires Inv-loop μ-loop
-finish-rows8-requires c κs = omega (arith, c .before .before .before .before .before .pre, c .before .if1 .taken, c .before .before .before .loop .inv .0, c .before .before .before .loop .inv .2 .kept, row-mono (c .before .before .before .before .before .args .width) (c .before .before .before .loop .r + 8) (c .before .before .before .before .before .args .rows) (omega (arith, c .before .if1 .taken)))
+finish-rows8-requires c κs =
+    let l = c .before .before .before .loop in
+    let a = c .before .before .before .before .before .args in
+    let pre = c .before .before .before .before .before .pre in
+    omega (
+      arith,
+      pre,
+      c .before .if1 .taken,
+      l .inv .0,
+      l .inv .2 .kept,
+      row-mono (a .width) (l .r + 8) (a .rows) (omega (arith, c .before .if1 .taken)),
+    )
 
 add-r-2 : tie.Need-add-r-2 Inv-loop μ-loop
 add-r-2 c = omega (arith, c .before .before .before .before .before .before .before .before .pre, c .before .before .before .before .if1 .taken)
@@ -34,32 +45,48 @@ loop-less c = omega (arith, c .before .before .before .before .before .loop-test
 
 loop-again : tie.Need-loop-again Inv-loop μ-loop
 loop-again c =
+    let pre = c .before .before .before .before .before .before .before .before .pre in
+    let finish-rows8 = c .before .before .finish-rows8 in
     let a = c .before .before .before .before .before .before .before .before .args in
     let l = c .before .before .before .before .before .before .loop in (
       omega (arith, l .inv .0),
       omega (arith, c .before .before .before .before .if1 .taken),
       rows-join (a .width) (a .s + 1) (l .r) (a .s0) (a .s) (a .root) (a .part .now) (l .part) (l .finite) (l .inv .2) (omega arith)
-          (omega (arith, c .before .before .before .before .before .before .before .before .pre)) (omega (arith, c .before .before .before .before .before .before .before .before .pre)) (l .r + 8) _ (c .before .before .finish-rows8 .result) (omega (arith, l .inv .0)) (omega arith)
-          (c .before .before .finish-rows8 .ensures),
+          (omega (arith, pre)) (omega (arith, pre)) (l .r + 8) _ (finish-rows8 .result) (omega (arith, l .inv .0)) (omega arith)
+          (finish-rows8 .ensures),
     )
 
 finish-row-requires : tie.Need-finish-row-requires Inv-loop μ-loop
-finish-row-requires c κs = omega (arith, c .before .before .before .before .before .pre, c .before .before .loop-test .taken, c .before .before .before .loop .inv .0, c .before .before .before .loop .inv .2 .kept, row-mono (c .before .before .before .before .before .args .width) (c .before .before .before .loop .r + 1) (c .before .before .before .before .before .args .rows) (omega (arith, c .before .before .loop-test .taken)))
+finish-row-requires c κs =
+    let l = c .before .before .before .loop in
+    let a = c .before .before .before .before .before .args in
+    let pre = c .before .before .before .before .before .pre in
+    omega (
+      arith,
+      pre,
+      c .before .before .loop-test .taken,
+      l .inv .0,
+      l .inv .2 .kept,
+      row-mono (a .width) (l .r + 1) (a .rows) (omega (arith, c .before .before .loop-test .taken)),
+    )
 
 add-r-3 : tie.Need-add-r-3 Inv-loop μ-loop
-add-r-3 c = omega (arith, c .before .before .before .before .before .before .before .before .pre, c .before .before .before .before .before .loop-test .taken)
+add-r-3 c =
+    let pre = c .before .before .before .before .before .before .before .before .pre in
+    omega (arith, pre, c .before .before .before .before .before .loop-test .taken)
 
 loop-less-2 : tie.Need-loop-less-2 Inv-loop μ-loop
 loop-less-2 c = omega (arith, c .before .before .before .before .before .loop-test .taken)
 
 loop-again-2 : tie.Need-loop-again-2 Inv-loop μ-loop
 loop-again-2 c =
+    let pre = c .before .before .before .before .before .before .before .before .pre in
     let a = c .before .before .before .before .before .before .before .before .args in
     let l = c .before .before .before .before .before .before .loop in (
       omega (arith, l .inv .0),
       omega (arith, c .before .before .before .before .before .loop-test .taken),
       rows-join (a .width) (a .s + 1) (l .r) (a .s0) (a .s) (a .root) (a .part .now) (l .part) (l .finite) (l .inv .2) (omega arith)
-          (omega (arith, c .before .before .before .before .before .before .before .before .pre)) (omega (arith, c .before .before .before .before .before .before .before .before .pre)) (l .r + 1) _ (c .before .before .finish-row .result) (omega (arith, l .inv .0)) (omega arith)
+          (omega (arith, pre)) (omega (arith, pre)) (l .r + 1) _ (c .before .before .finish-row .result) (omega (arith, l .inv .0)) (omega arith)
           (c .before .before .finish-row .ensures),
     )
 

@@ -15,35 +15,51 @@ place-in-block-requires : tie.Need-place-in-block-requires
 place-in-block-requires c κs = search needs
 
 add-y : tie.Need-add-y
-add-y c = omega (arith, c .place-in-block .ensures, c .before .before .before .pre, c .before .before .before .good, row-within (c .before .before .before .args .width) (c .before .before .before .args .s) (c .before .before .before .args .r + 8) (omega (arith, c .before .before .before .pre)))
+add-y c =
+    let a = c .before .before .before .args in
+    let pre = c .before .before .before .pre in
+    omega (arith, c .place-in-block .ensures, pre, c .before .before .before .good, row-within (a .width) (a .s) (a .r + 8) (omega (arith, pre)))
 
 sub-count : tie.Need-sub-count
 sub-count c = search needs
 
 quotients8-requires : tie.Need-quotients8-requires
 quotients8-requires c κs =
+    let pre = c .before .before .before .before .pre in
+    let row-places8 = c .before .before .row-places8 in
     let a = c .before .before .before .before .args in (
-      omega (arith, c .before .place-in-block .ensures, c .before .before .before .before .pre, row-within (a .width) (a .s) (a .r + 8) (omega (arith, c .before .before .before .before .pre))),
+      omega (arith, c .before .place-in-block .ensures, pre, row-within (a .width) (a .s) (a .r + 8) (omega (arith, pre))),
       λ k few.
           omega (
             arith,
-            c .before .before .before .before .pre,
-            eight-inside (a .width) (a .r) (a .s0) (a .s) (λ (q : ℕ). getD (c .before .before .row-places8 .result) q 0) (omega (arith, c .before .before .before .before .pre)) (omega (arith, c .before .before .before .before .pre)) (omega (arith, c .before .before .before .before .pre))
-                (c .before .before .row-places8 .ensures) k few,
+            pre,
+            eight-inside (a .width) (a .r) (a .s0) (a .s) (λ (q : ℕ). getD (row-places8 .result) q 0) (omega (
+              arith,
+              pre,
+            )) (omega (arith, pre)) (omega (arith, pre))
+                (row-places8 .ensures) k few,
           ),
     )
 
 scatter8-requires : tie.Need-scatter8-requires
 scatter8-requires c κs =
+    let pre = c .before .before .before .before .before .before .pre in
+    let row-places8 = c .before .before .before .before .row-places8 in
     let a = c .before .before .before .before .before .before .args in (
       λ k few.
           omega (
             arith,
-            c .before .before .before .before .before .before .pre,
-            eight-inside (a .width) (a .r) (a .s0) (a .s) (λ (q : ℕ). getD (c .before .before .before .before .row-places8 .result) q 0) (omega (arith, c .before .before .before .before .before .before .pre)) (omega (arith, c .before .before .before .before .before .before .pre)) (omega (arith, c .before .before .before .before .before .before .pre))
-                (c .before .before .before .before .row-places8 .ensures) k few,
+            pre,
+            eight-inside (a .width) (a .r) (a .s0) (a .s) (λ (q : ℕ). getD (row-places8 .result) q 0) (omega (
+              arith,
+              pre,
+            )) (omega (arith, pre)) (omega (arith, pre))
+                (row-places8 .ensures) k few,
           ),
-      eight-apart (a .width) (a .r) (a .s0) (a .s) (λ (q : ℕ). getD (c .before .before .before .before .row-places8 .result) q 0) (omega (arith, c .before .before .before .before .before .before .pre)) (omega (arith, c .before .before .before .before .before .before .pre)) (omega (arith, c .before .before .before .before .before .before .pre)) (c .before .before .before .before .row-places8 .ensures),
+      eight-apart (a .width) (a .r) (a .s0) (a .s) (λ (q : ℕ). getD (row-places8 .result) q 0) (omega (
+        arith,
+        pre,
+      )) (omega (arith, pre)) (omega (arith, pre)) (row-places8 .ensures),
     )
 
 slice-aggregate-all-finite : tie.Need-slice-aggregate-all-finite
@@ -57,11 +73,17 @@ same-length c = search needs
 
 returns : tie.Need-returns
 returns c =
+    let pre = c .before .before .before .before .before .before .before .before .before .before .before .pre in
+    let quotients8 = c .before .before .before .before .before .before .quotients8 in
+    let row-places8 = c .before .before .before .before .before .before .before .before .before .row-places8 in
     let a = c .before .before .before .before .before .before .before .before .before .before .before .args in
     rw (c .all-finite .ensures)
-    (rows-eight (a .width) (a .r) (a .s0) (a .s) (λ (q : ℕ). getD (c .before .before .before .before .before .before .before .before .before .row-places8 .result) q 0) (omega (arith, c .before .before .before .before .before .before .before .before .before .before .before .pre)) (omega (arith, c .before .before .before .before .before .before .before .before .before .before .before .pre)) (omega (arith, c .before .before .before .before .before .before .before .before .before .before .before .pre))
-    (c .before .before .before .before .before .before .before .before .before .row-places8 .ensures) (a .root) (a .part .now) _ (c .before .before .before .before .before .before .quotients8 .result) (c .before .before .before .before .before .before .quotients8 .ensures .0)
-    (rw (c .before .before .before .before .before .before .before .before .place-in-block .ensures) at (c .before .before .before .before .before .before .quotients8 .ensures .1)) (c .before .before .before .before .scatter8 .ensures))
+    (rows-eight (a .width) (a .r) (a .s0) (a .s) (λ (q : ℕ). getD (row-places8 .result) q 0) (omega (
+      arith,
+      pre,
+    )) (omega (arith, pre)) (omega (arith, pre))
+    (row-places8 .ensures) (a .root) (a .part .now) _ (quotients8 .result) (quotients8 .ensures .0)
+    (rw (c .before .before .before .before .before .before .before .before .place-in-block .ensures) at (quotients8 .ensures .1)) (c .before .before .before .before .scatter8 .ensures))
 
 pub finish-rows8-spec : {M : Type 1} → statement M
 finish-rows8-spec =

@@ -41,17 +41,19 @@ divide8-requires c κs = search needs
 
 returns : tie.Need-returns
 returns c =
+    let gather8 = c .before .before .before .gather8 in
+    let pre = c .before .before .before .before .before .pre in
     let a = c .before .before .before .before .before .args in
     let count : a .y + a .count - a .y ≡ a .count = omega arith in (
       c .divide8 .ensures .0,
       λ k h.
           let row = rowAt (a .part .now) (getD (a .at) k 0) in
-          let t = getD (c .before .before .before .gather8 .result) k nan in
+          let t = getD (gather8 .result) k nan in
           c .divide8 .ensures .1 k h
           ∙ ap (λ (v : Float). div binary64 v (a .root))
           (c .before .subtract-rising8 .ensures k h
-          ∙ rising-part (a .part .now) (a .part .now) (getD (a .at) k 0) (a .y) (a .y + a .count - a .y) t (omega (arith, c .before .before .before .before .before .pre .0))
-          ∙ ap₂ (minusProducts row (rowAt (a .part .now) (a .y))) count (c .before .before .before .gather8 .ensures k h)),
+          ∙ rising-part (a .part .now) (a .part .now) (getD (a .at) k 0) (a .y) (a .y + a .count - a .y) t (omega (arith, pre .0))
+          ∙ ap₂ (minusProducts row (rowAt (a .part .now) (a .y))) count (gather8 .ensures k h)),
     )
 
 pub quotients8-spec : {M : Type 1} → statement M

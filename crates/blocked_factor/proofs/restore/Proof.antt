@@ -12,7 +12,10 @@ use Rattle.blocked_factor.proofs.restore.Statement.{statement}
 use Rattle.blocked_factor.proofs.restore.Tie as tie
 
 slice-aggregate-copy : tie.Need-slice-aggregate-copy
-slice-aggregate-copy c = omega (arith, c .before .before .before .pre, length-take (c .before .before .before .args .size) (c .before .before .before .args .work .now))
+slice-aggregate-copy c =
+    let a = c .before .before .before .args in
+    let pre = c .before .before .before .pre in
+    omega (arith, pre, length-take (a .size) (a .work .now))
 
 add-copy : tie.Need-add-copy
 add-copy c = search needs
@@ -31,21 +34,28 @@ part-copy-end c = search needs
 
 copy-requires : tie.Need-copy-requires
 copy-requires c κs =
+    let pre = c .before .before .before .before .pre in
     let a = c .before .before .before .before .args in
-    omega (arith, c .before .before .before .before .pre, length-take (a .size) (a .work .now), length-part nan (a .start) (a .start + a .size - a .start) (a .m .now) (omega (arith, c .before .before .before .before .pre)))
+    omega (
+      arith,
+      pre,
+      length-take (a .size) (a .work .now),
+      length-part nan (a .start) (a .start + a .size - a .start) (a .m .now) (omega (arith, pre)),
+    )
 
 same-length : tie.Need-same-length
 same-length c = search needs
 
 returns : tie.Need-returns
 returns c =
+    let pre = c .before .before .before .before .before .before .before .pre in
     let a = c .before .before .before .before .before .before .before .args in
     let ys = c .before .before .copy .last .1 .0 in
     let size : length ys ≡ a .start + a .size - a .start =
-    omega (arith, c .before .before .before .before .before .before .before .pre, ap (λ (xs : List Float). length xs) (c .before .before .copy .ensures), length-take (a .size) (a .work .now))
+    omega (arith, pre, ap (λ (xs : List Float). length xs) (c .before .before .copy .ensures), length-take (a .size) (a .work .now))
     in
     let whole =
-    part-replaced nan (a .start) (a .start + a .size - a .start) (a .m .now) ys (omega (arith, c .before .before .before .before .before .before .before .pre)) size
+    part-replaced nan (a .start) (a .start + a .size - a .start) (a .m .now) ys (omega (arith, pre)) size
     in
     record {
       size = whole .size;

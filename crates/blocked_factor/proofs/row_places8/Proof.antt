@@ -21,7 +21,13 @@ place-in-block-requires : tie.Need-place-in-block-requires Inv-loop μ-loop
 place-in-block-requires c κs = omega (arith, c .pre)
 
 add-at : tie.Need-add-at Inv-loop μ-loop
-add-at c = omega (arith, c .before .pre, c .place-in-block .ensures, row-le-triangle (c .before .args .width) (c .before .args .r), triangle-le (c .before .args .r) (omega (arith, c .before .pre)))
+add-at c = omega (
+  arith,
+  c .before .pre,
+  c .place-in-block .ensures,
+  row-le-triangle (c .before .args .width) (c .before .args .r),
+  triangle-le (c .before .args .r) (omega (arith, c .before .pre)),
+)
 
 loop-holds : tie.Need-loop-holds Inv-loop μ-loop
 loop-holds c =
@@ -44,7 +50,17 @@ least-requires : tie.Need-least-requires Inv-loop μ-loop
 least-requires c κs = search needs
 
 add-at-2 : tie.Need-add-at-2 Inv-loop μ-loop
-add-at-2 c = omega (arith, c .before .before .before .before .pre, c .least .ensures, c .before .before .loop .inv .1, row-le-triangle (c .before .before .before .before .args .width) (c .before .before .before .before .args .r + c .before .before .loop .k), triangle-le (c .before .before .before .before .args .r + c .before .before .loop .k) (omega (arith, c .before .before .before .before .pre)))
+add-at-2 c =
+    let a = c .before .before .before .before .args in
+    let pre = c .before .before .before .before .pre in
+    omega (
+      arith,
+      pre,
+      c .least .ensures,
+      c .before .before .loop .inv .1,
+      row-le-triangle (a .width) (a .r + c .before .before .loop .k),
+      triangle-le (a .r + c .before .before .loop .k) (omega (arith, pre)),
+    )
 
 loop-less : tie.Need-loop-less Inv-loop μ-loop
 loop-less c = omega arith

@@ -29,27 +29,42 @@ slice-relend-prefix-copy : tie.Need-slice-relend-prefix-copy
 slice-relend-prefix-copy c = search needs
 
 slice-aggregate-copy : tie.Need-slice-aggregate-copy
-slice-aggregate-copy c = omega (arith, c .before .before .before .before .pre, length-take (c .before .before .before .before .args .size) (c .before .before .before .before .args .work .now))
+slice-aggregate-copy c =
+    let a = c .before .before .before .before .args in
+    let pre = c .before .before .before .before .pre in
+    omega (arith, pre, length-take (a .size) (a .work .now))
 
 copy-requires : tie.Need-copy-requires
 copy-requires c κs =
+    let pre = c .before .before .before .before .pre in
     let a = c .before .before .before .before .args in
-    omega (arith, c .before .before .before .before .pre, length-take (a .size) (a .work .now), length-part nan (a .start) (a .start + a .size - a .start) (a .m .now) (omega (arith, c .before .before .before .before .pre)))
+    omega (
+      arith,
+      pre,
+      length-take (a .size) (a .work .now),
+      length-part nan (a .start) (a .start + a .size - a .start) (a .m .now) (omega (arith, pre)),
+    )
 
 same-length : tie.Need-same-length
 same-length c = search needs
 
 returns : tie.Need-returns
 returns c =
+    let pre = c .before .before .before .before .before .before .before .pre in
     let a = c .before .before .before .before .before .before .before .args in
     let ys = c .before .before .copy .last .1 .0 in
     let size : length ys ≡ a .size =
-    omega (arith, c .before .before .before .before .before .before .before .pre, ap (λ (xs : List Float). length xs) (c .before .before .copy .ensures), length-part nan (a .start) (a .start + a .size - a .start) (a .m .now) (omega (arith, c .before .before .before .before .before .before .before .pre)))
+    omega (
+      arith,
+      pre,
+      ap (λ (xs : List Float). length xs) (c .before .before .copy .ensures),
+      length-part nan (a .start) (a .start + a .size - a .start) (a .m .now) (omega (arith, pre)),
+    )
     in
     record {
       value = λ k h.
           let at : 0 + k ≡ k = omega arith in
-          rw at at (prefix-replaced nan (a .size) (a .work .now) ys (omega (arith, c .before .before .before .before .before .before .before .pre)) size .inside k h)
+          rw at at (prefix-replaced nan (a .size) (a .work .now) ys (omega (arith, pre)) size .inside k h)
           ∙ ap (λ (xs : List Float). getD xs k nan) (c .before .before .copy .ensures)
           ∙ getD-part nan (a .start) (a .start + a .size - a .start) (a .m .now) k (omega arith);
     }

@@ -30,32 +30,48 @@ loop-holds : tie.Need-loop-holds Inv-loop μ-loop
 loop-holds c = (omega arith, omega (arith, block-of-le (c .before .before .before .before .args .shape .block) 0), refl, earlier-none _ _ _ _ _ _)
 
 block-start-requires-2 : tie.Need-block-start-requires-2 Inv-loop μ-loop
-block-start-requires-2 c κs = omega (arith, c .before .before .before .before .before .before .pre .order, c .before .before .before .before .before .before .pre .inside, c .loop-test .taken)
+block-start-requires-2 c κs =
+    let pre = c .before .before .before .before .before .before .pre in
+    omega (arith, pre .order, pre .inside, c .loop-test .taken)
 
 sub-t15 : tie.Need-sub-t15 Inv-loop μ-loop
 sub-t15 c = omega (arith, c .before .before .before .before .before .before .before .pre .inside, c .before .loop-test .taken)
 
 update-block-requires : tie.Need-update-block-requires Inv-loop μ-loop
 update-block-requires c κs =
+    let pre = c .before .before .before .before .before .before .before .before .before .pre in
     let l = c .before .before .before .before .loop in
     rw (c .before .before .before .before .before .before .block-start .ensures, c .before .before .before .before .before .block-width .ensures, c .before .before .block-start2 .ensures, l .inv .3 .kept)
-    (earlier-source (c .before .before .before .before .before .before .before .before .before .pre) (l .k) (l .inv .1) (c .before .before .before .loop-test .taken))
+    (earlier-source (pre) (l .k) (l .inv .1) (c .before .before .before .loop-test .taken))
 
 add-k : tie.Need-add-k Inv-loop μ-loop
-add-k c = omega (arith, c .before .before .before .before .before .before .before .before .before .before .before .before .before .before .pre .order, c .before .before .before .before .before .before .before .before .before .before .before .before .before .before .pre .inside, next-le (c .before .before .before .before .before .before .before .before .before .before .before .before .before .before .pre) (c .before .before .before .before .before .before .before .before .before .loop .k) (c .before .before .before .before .before .before .before .before .before .loop .inv .1) (c .before .before .before .before .before .before .before .before .loop-test .taken))
+add-k c =
+    let pre = c .before .before .before .before .before .before .before .before .before .before .before .before .before .before .pre in
+    let l = c .before .before .before .before .before .before .before .before .before .loop in
+    omega (
+      arith,
+      pre .order,
+      pre .inside,
+      next-le (pre) (l .k) (l .inv .1) (c .before .before .before .before .before .before .before .before .loop-test .taken),
+    )
 
 loop-less : tie.Need-loop-less Inv-loop μ-loop
-loop-less c = omega (arith, c .before .before .before .before .before .before .before .before .before .before .before .before .before .before .pre .block, c .before .before .before .before .before .before .before .before .loop-test .taken)
+loop-less c =
+    let pre = c .before .before .before .before .before .before .before .before .before .before .before .before .before .before .pre in
+    omega (arith, pre .block, c .before .before .before .before .before .before .before .before .loop-test .taken)
 
 loop-again : tie.Need-loop-again Inv-loop μ-loop
 loop-again c =
+    let pre = c .before .before .before .before .before .before .before .before .before .before .before .before .before .before .pre in
+    let loop-test = c .before .before .before .before .before .before .before .before .loop-test in
+    let update-block = c .before .before .before .before .update-block in
     let a = c .before .before .before .before .before .before .before .before .before .before .before .before .before .before .args in
     let l = c .before .before .before .before .before .before .before .before .before .loop in (
-      next-le (c .before .before .before .before .before .before .before .before .before .before .before .before .before .before .pre) (l .k) (l .inv .1) (c .before .before .before .before .before .before .before .before .loop-test .taken),
-      block-of-next (a .shape .block) (l .k) (c .before .before .before .before .before .before .before .before .before .before .before .before .before .before .pre .block) (l .inv .1),
-      (c .before .before .before .before .update-block .kept .1 .0 ∙ l .inv .2),
-      earlier-next (c .before .before .before .before .before .before .before .before .before .before .before .before .before .before .pre) (l .k) (l .inv .1) (c .before .before .before .before .before .before .before .before .loop-test .taken) (a .m .now) (l .m) _ refl (l .inv .3)
-          (rw (c .before .before .before .before .before .before .before .before .before .before .before .block-start .ensures, c .before .before .before .before .before .before .before .before .before .before .block-width .ensures, c .before .before .before .before .before .before .before .block-start2 .ensures) at (c .before .before .before .before .update-block .ensures)),
+      next-le (pre) (l .k) (l .inv .1) (loop-test .taken),
+      block-of-next (a .shape .block) (l .k) (pre .block) (l .inv .1),
+      (update-block .kept .1 .0 ∙ l .inv .2),
+      earlier-next (pre) (l .k) (l .inv .1) (loop-test .taken) (a .m .now) (l .m) _ refl (l .inv .3)
+          (rw (c .before .before .before .before .before .before .before .before .before .before .before .block-start .ensures, c .before .before .before .before .before .before .before .before .before .before .block-width .ensures, c .before .before .before .before .before .before .before .block-start2 .ensures) at (update-block .ensures)),
     )
 
 same-length : tie.Need-same-length Inv-loop μ-loop
@@ -66,7 +82,8 @@ same-length-2 c = c .before .loop .inv .2
 
 returns : tie.Need-returns Inv-loop μ-loop
 returns c =
-    let e : c .before .loop .k ≡ c .before .before .before .before .before .before .args .c = omega (arith, c .loop-test .left, c .before .loop .inv .0) in
+    let a = c .before .before .before .before .before .before .args in
+    let e : c .before .loop .k ≡ a .c = omega (arith, c .loop-test .left, c .before .loop .inv .0) in
     rw e at (c .before .loop .inv .3)
 
 pub update-by-all-spec : {M : Type 1} → statement M

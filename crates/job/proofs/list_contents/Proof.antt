@@ -16,7 +16,9 @@ enum-known-place : tie.Need-enum-known-place
 enum-known-place c = search needs
 
 put-end-requires : tie.Need-put-end-requires
-put-end-requires c κs = omega (arith, (c .before .before .before .before .before .before .before .before .before .before .before .before .before .before .before .pre .1 .1 .1), end-short 13 (c .before .before .place .given .0 .0))
+put-end-requires c κs =
+    let pre = c .before .before .before .before .before .before .before .before .before .before .before .before .before .before .before .pre in
+    omega (arith, (pre .1 .1 .1), end-short 13 (c .before .before .place .given .0 .0))
 
 enum-told : tie.Need-enum-told
 enum-told c = search needs
@@ -34,7 +36,10 @@ same-length-3 : tie.Need-same-length-3
 same-length-3 c = search needs
 
 returns : tie.Need-returns
-returns c = as-text (ap listed (sym (ap (parsedAs (record { sizes = (c .before .before .before .before .before .before .before .before .before .before .before .before .before .before .before .before .before .before .args .sizes); matrix = (c .before .before .before .before .before .before .before .before .before .before .before .read-contents .last .1 .1 .1 .0); rhs = (c .before .before .before .before .before .before .before .before .before .before .before .read-contents .last .1 .1 .1 .1 .0) })) (c .before .before .before .before .before .place .given .1)) ∙ (c .before .before .before .before .before .before .before .before .before .before .before .read-contents .ensures))) (c .before .before .put-end .ensures)
+returns c =
+    let read-contents = c .before .before .before .before .before .before .before .before .before .before .before .read-contents in
+    let a = c .before .before .before .before .before .before .before .before .before .before .before .before .before .before .before .before .before .before .args in
+    as-text (ap listed (sym (ap (parsedAs (record { sizes = (a .sizes); matrix = (read-contents .last .1 .1 .1 .0); rhs = (read-contents .last .1 .1 .1 .1 .0) })) (c .before .before .before .before .before .place .given .1)) ∙ (read-contents .ensures))) (c .before .before .put-end .ensures)
 
 same-length-4 : tie.Need-same-length-4
 same-length-4 c = search needs
@@ -46,7 +51,10 @@ same-length-6 : tie.Need-same-length-6
 same-length-6 c = search needs
 
 returns-2 : tie.Need-returns-2
-returns-2 c = as-text (ap listed (sym (ap (parsedAs (record { sizes = (c .before .before .before .before .before .before .before .before .before .before .before .before .before .before .before .before .before .before .before .before .before .before .before .args .sizes); matrix = (c .before .before .before .before .before .before .before .before .before .before .before .before .before .before .before .before .read-contents .last .1 .1 .1 .0); rhs = (c .before .before .before .before .before .before .before .before .before .before .before .before .before .before .before .before .read-contents .last .1 .1 .1 .1 .0) })) (c .before .before .before .before .before .before .before .before .before .before .enum-told .given .1)) ∙ (c .before .before .before .before .before .before .before .before .before .before .before .before .before .before .before .before .read-contents .ensures))) (c .before .before .before .before .before .before .list-solved .ensures)
+returns-2 c =
+    let read-contents = c .before .before .before .before .before .before .before .before .before .before .before .before .before .before .before .before .read-contents in
+    let a = c .before .before .before .before .before .before .before .before .before .before .before .before .before .before .before .before .before .before .before .before .before .before .before .args in
+    as-text (ap listed (sym (ap (parsedAs (record { sizes = (a .sizes); matrix = (read-contents .last .1 .1 .1 .0); rhs = (read-contents .last .1 .1 .1 .1 .0) })) (c .before .before .before .before .before .before .before .before .before .before .enum-told .given .1)) ∙ (read-contents .ensures))) (c .before .before .before .before .before .before .list-solved .ensures)
 
 pub list-contents-spec : {M : Type 1} → statement M
 list-contents-spec =

@@ -15,7 +15,9 @@ enum-known-place : tie.Need-enum-known-place
 enum-known-place c = search needs
 
 put-end-requires : tie.Need-put-end-requires
-put-end-requires c κs = omega (arith, (c .before .before .before .before .before .before .before .pre .1), end-short 13 (c .before .before .place .given .0 .0))
+put-end-requires c κs =
+    let pre = c .before .before .before .before .before .before .before .pre in
+    omega (arith, (pre .1), end-short 13 (c .before .before .place .given .0 .0))
 
 enum-known-next : tie.Need-enum-known-next
 enum-known-next c = search needs
@@ -27,13 +29,17 @@ same-length : tie.Need-same-length
 same-length c = search needs
 
 returns : tie.Need-returns
-returns c = as-text (after-map (c .before .before .before .before .before .before .before .before .before .before .args .file .now) (c .before .before .before .before .before .before .before .before .before .before .args .sizes) (sym (ap (parsedAs tt) (c .before .before .before .before .before .place .given .1)) ∙ (c .before .before .before .before .before .before .before .read-map .ensures))) (c .before .before .put-end .ensures)
+returns c =
+    let a = c .before .before .before .before .before .before .before .before .before .before .args in
+    as-text (after-map (a .file .now) (a .sizes) (sym (ap (parsedAs tt) (c .before .before .before .before .before .place .given .1)) ∙ (c .before .before .before .before .before .before .before .read-map .ensures))) (c .before .before .put-end .ensures)
 
 same-length-2 : tie.Need-same-length-2
 same-length-2 c = search needs
 
 returns-2 : tie.Need-returns-2
-returns-2 c = as-text (after-map (c .before .before .before .before .before .before .before .before .before .before .args .file .now) (c .before .before .before .before .before .before .before .before .before .before .args .sizes) (sym (ap (parsedAs tt) (c .before .before .before .before .before .next .given .1)) ∙ (c .before .before .before .before .before .before .before .read-map .ensures))) (c .before .before .list-values .ensures)
+returns-2 c =
+    let a = c .before .before .before .before .before .before .before .before .before .before .args in
+    as-text (after-map (a .file .now) (a .sizes) (sym (ap (parsedAs tt) (c .before .before .before .before .before .next .given .1)) ∙ (c .before .before .before .before .before .before .before .read-map .ensures))) (c .before .before .list-values .ensures)
 
 pub list-mapped-spec : {M : Type 1} → statement M
 list-mapped-spec =

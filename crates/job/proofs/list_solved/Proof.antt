@@ -11,7 +11,15 @@ solve-job-requires : tie.Need-solve-job-requires
 solve-job-requires c κs = search needs
 
 put-result-requires : tie.Need-put-result-requires
-put-result-requires c κs = omega (arith, (c .before .before .before .before .before .before .before .before .before .before .before .before .before .pre .1 .1 .1), result-short (c .before .before .before .before .before .before .before .before .before .before .before .before .before .args .sizes) (c .before .before .before .before .before .before .before .before .before .before .before .before .before .pre .0) (c .before .before .before .before .before .before .before .solve-job .result) (c .before .before .before .before .before .before .before .solve-job .last .1 .0) (c .before .before .before .before .before .before .before .solve-job .last .1 .1 .0) (job-success-of _ _ _ _ (c .before .before .before .before .before .before .before .solve-job .ensures)) (omega (arith, (c .before .before .before .before .before .before .before .solve-job .kept .1 .0), (c .before .before .before .before .before .before .before .before .before .before .before .before .before .pre .1 .0), triangle-small (c .before .before .before .before .before .before .before .before .before .before .before .before .before .args .sizes .order) (c .before .before .before .before .before .before .before .before .before .before .before .before .before .pre .0 .order))) (omega (arith, (c .before .before .before .before .before .before .before .solve-job .kept .1 .1 .0), (c .before .before .before .before .before .before .before .before .before .before .before .before .before .pre .1 .1 .0), values-small (c .before .before .before .before .before .before .before .before .before .before .before .before .before .args .sizes .order) (c .before .before .before .before .before .before .before .before .before .before .before .before .before .args .sizes .count) (c .before .before .before .before .before .before .before .before .before .before .before .before .before .pre .0 .order) (c .before .before .before .before .before .before .before .before .before .before .before .before .before .pre .0 .count))))
+put-result-requires c κs =
+    let pre = c .before .before .before .before .before .before .before .before .before .before .before .before .before .pre in
+    let solve-job = c .before .before .before .before .before .before .before .solve-job in
+    let a = c .before .before .before .before .before .before .before .before .before .before .before .before .before .args in
+    omega (
+      arith,
+      (pre .1 .1 .1),
+      result-short (a .sizes) (pre .0) (solve-job .result) (solve-job .last .1 .0) (solve-job .last .1 .1 .0) (job-success-of _ _ _ _ (solve-job .ensures)) (omega (arith, (solve-job .kept .1 .0), (pre .1 .0), triangle-small (a .sizes .order) (pre .0 .order))) (omega (arith, (solve-job .kept .1 .1 .0), (pre .1 .1 .0), values-small (a .sizes .order) (a .sizes .count) (pre .0 .order) (pre .0 .count))),
+    )
 
 same-length : tie.Need-same-length
 same-length c = search needs

@@ -9,7 +9,9 @@ use Rattle.job.proofs.run.Statement.{statement}
 use Rattle.job.proofs.run.Tie as tie
 
 returns : tie.Need-returns
-returns c = as-text (no-room (c .before .before .before .args .file .now) (c .before .before .before .args .out .now) (c .if1 .taken)) (nothing-written 0 (c .before .before .before .args .out .now))
+returns c =
+    let a = c .before .before .before .args in
+    as-text (no-room (a .file .now) (a .out .now) (c .if1 .taken)) (nothing-written 0 (a .out .now))
 
 read-sizes-requires : tie.Need-read-sizes-requires
 read-sizes-requires c κs = search needs
@@ -24,19 +26,26 @@ enum-known-sizes : tie.Need-enum-known-sizes
 enum-known-sizes c = search needs
 
 list-mapped-requires : tie.Need-list-mapped-requires
-list-mapped-requires c κs = (sizes-bounds (c .before .before .before .before .before .before .before .before .args .file .now) (c .before .before .sizes .given .0 .0) (c .before .before .sizes .given .0 .1 .0) (sym (sym (ap parsedSizes (c .before .before .sizes .given .1)) ∙ (c .before .before .before .before .read-sizes .ensures))), (c .before .before .before .before .before .if1 .left))
+list-mapped-requires c κs =
+    let a = c .before .before .before .before .before .before .before .before .args in
+    (sizes-bounds (a .file .now) (c .before .before .sizes .given .0 .0) (c .before .before .sizes .given .0 .1 .0) (sym (sym (ap parsedSizes (c .before .before .sizes .given .1)) ∙ (c .before .before .before .before .read-sizes .ensures))), (c .before .before .before .before .before .if1 .left))
 
 same-length : tie.Need-same-length
 same-length c = search needs
 
 returns-2 : tie.Need-returns-2
-returns-2 c = as-text (listing-fault (c .before .before .before .before .before .before .before .before .before .before .before .args .file .now) (c .before .before .before .before .before .before .before .before .before .before .before .args .out .now) (c .before .before .before .before .before .place .given .0 .0) (c .before .before .before .before .before .before .before .before .if1 .left) (sym (ap parsedSizes (c .before .before .before .before .before .place .given .1)) ∙ (c .before .before .before .before .before .before .before .read-sizes .ensures))) (c .before .before .put-end .ensures)
+returns-2 c =
+    let a = c .before .before .before .before .before .before .before .before .before .before .before .args in
+    let place = c .before .before .before .before .before .place in
+    as-text (listing-fault (a .file .now) (a .out .now) (place .given .0 .0) (c .before .before .before .before .before .before .before .before .if1 .left) (sym (ap parsedSizes (place .given .1)) ∙ (c .before .before .before .before .before .before .before .read-sizes .ensures))) (c .before .before .put-end .ensures)
 
 same-length-2 : tie.Need-same-length-2
 same-length-2 c = search needs
 
 returns-3 : tie.Need-returns-3
-returns-3 c = as-text (listing-sizes (c .before .before .before .before .before .before .before .before .before .before .before .args .file .now) (c .before .before .before .before .before .before .before .before .before .before .before .args .out .now) (c .before .before .before .before .before .sizes .given .0 .0) (c .before .before .before .before .before .sizes .given .0 .1 .0) (c .before .before .before .before .before .before .before .before .if1 .left) (sym (ap parsedSizes (c .before .before .before .before .before .sizes .given .1)) ∙ (c .before .before .before .before .before .before .before .read-sizes .ensures))) (c .before .before .list-mapped .ensures)
+returns-3 c =
+    let a = c .before .before .before .before .before .before .before .before .before .before .before .args in
+    as-text (listing-sizes (a .file .now) (a .out .now) (c .before .before .before .before .before .sizes .given .0 .0) (c .before .before .before .before .before .sizes .given .0 .1 .0) (c .before .before .before .before .before .before .before .before .if1 .left) (sym (ap parsedSizes (c .before .before .before .before .before .sizes .given .1)) ∙ (c .before .before .before .before .before .before .before .read-sizes .ensures))) (c .before .before .list-mapped .ensures)
 
 pub run-spec : {M : Type 1} → statement M
 run-spec =

@@ -25,7 +25,9 @@ same-length-3 : tie.Need-same-length-3
 same-length-3 c = search needs
 
 returns-2 : tie.Need-returns-2
-returns-2 c = refused-by-8 _ _ _ _ (c .if2 .taken) (c .before .before .before .before .before .before .check-finite .result) (c .before .before .before .before .before .before .check-finite .ensures) (c .before .before .before .before .if1 .left) (c .before .before .check-finite2 .ensures)
+returns-2 c =
+    let check-finite = c .before .before .before .before .before .before .check-finite in
+    refused-by-8 _ _ _ _ (c .if2 .taken) (check-finite .result) (check-finite .ensures) (c .before .before .before .before .if1 .left) (c .before .before .check-finite2 .ensures)
 
 new-requires : tie.Need-new-requires
 new-requires c κs = search needs
@@ -34,10 +36,25 @@ block-work-requires : tie.Need-block-work-requires
 block-work-requires c κs = search needs
 
 array-borrow-prefix-work : tie.Need-array-borrow-prefix-work
-array-borrow-prefix-work c = omega (arith, (c .before .before .block-work .ensures), work-small (c .before .before .before .new .result .order) (c .before .before .before .new .result .block) (omega (arith, (c .before .before .before .new .ensures .0), (c .before .before .before .before .before .before .before .before .before .before .before .before .before .before .pre .order))))
+array-borrow-prefix-work c =
+    let new = c .before .before .before .new in
+    let pre = c .before .before .before .before .before .before .before .before .before .before .before .before .before .before .pre in
+    omega (
+      arith,
+      (c .before .before .block-work .ensures),
+      work-small (new .result .order) (new .result .block) (omega (arith, (new .ensures .0), (pre .order))),
+    )
 
 slice-aggregate-blocked-pipeline : tie.Need-slice-aggregate-blocked-pipeline
-slice-aggregate-blocked-pipeline c = length-zeros 4096 (c .before .before .before .block-work .result) (ofBits binary64 0) (omega (arith, (c .before .before .before .block-work .ensures), work-small (c .before .before .before .before .new .result .order) (c .before .before .before .before .new .result .block) (omega (arith, (c .before .before .before .before .new .ensures .0), (c .before .before .before .before .before .before .before .before .before .before .before .before .before .before .before .pre .order)))))
+slice-aggregate-blocked-pipeline c =
+    let new = c .before .before .before .before .new in
+    let block-work = c .before .before .before .block-work in
+    let pre = c .before .before .before .before .before .before .before .before .before .before .before .before .before .before .before .pre in
+    length-zeros 4096 (block-work .result) (ofBits binary64 0) (omega (
+      arith,
+      (block-work .ensures),
+      work-small (new .result .order) (new .result .block) (omega (arith, (new .ensures .0), (pre .order))),
+    ))
 
 blocked-pipeline-requires : tie.Need-blocked-pipeline-requires
 blocked-pipeline-requires c κs = search needs
@@ -49,7 +66,18 @@ same-length-5 : tie.Need-same-length-5
 same-length-5 c = search needs
 
 returns-3 : tie.Need-returns-3
-returns-3 c = job-ran _ (c .before .before .before .before .before .before .before .before .before .before .before .before .before .before .before .before .before .before .check-finite .result) (c .before .before .before .before .before .before .before .before .before .before .before .before .before .before .check-finite2 .result) (record { factorResult = (c .before .before .before .before .before .before .blocked-pipeline .result .factor); solverResult = (c .before .before .before .before .before .before .blocked-pipeline .result .solver); matrix = (c .before .before .before .before .before .before .blocked-pipeline .last .1 .1 .0); rhs = (c .before .before .before .before .before .before .blocked-pipeline .last .1 .1 .1 .0); work = (c .before .before .before .before .before .before .blocked-pipeline .last .1 .1 .1 .1 .0) }) (c .before .before .before .before .before .before .before .before .before .before .before .before .before .before .before .before .before .before .check-finite .ensures) (c .before .before .before .before .before .before .before .before .before .before .before .before .before .before .before .before .if1 .left) (c .before .before .before .before .before .before .before .before .before .before .before .before .before .before .check-finite2 .ensures) (c .before .before .before .before .before .before .before .before .before .before .before .before .if2 .left) (ended-as _ (c .before .before .before .before .before .before .before .before .before .before .before .new .result .order) (c .before .before .before .before .before .before .before .before .before .before .before .new .result .block) (c .before .before .before .before .before .before .before .before .before .before .block-work .result) _ (c .before .before .before .before .before .before .before .before .before .before .before .new .ensures .0) (c .before .before .before .before .before .before .before .before .before .before .before .new .ensures .1) (c .before .before .before .before .before .before .before .before .before .before .block-work .ensures) (omega (arith, (c .before .before .before .before .before .before .before .before .before .before .block-work .ensures), work-small (c .before .before .before .before .before .before .before .before .before .before .before .new .result .order) (c .before .before .before .before .before .before .before .before .before .before .before .new .result .block) (omega (arith, (c .before .before .before .before .before .before .before .before .before .before .before .new .ensures .0), (c .before .before .before .before .before .before .before .before .before .before .before .before .before .before .before .before .before .before .before .before .before .before .pre .order))))) (c .before .before .before .before .before .before .blocked-pipeline .ensures))
+returns-3 c =
+    let new = c .before .before .before .before .before .before .before .before .before .before .before .new in
+    let blocked-pipeline = c .before .before .before .before .before .before .blocked-pipeline in
+    let block-work = c .before .before .before .before .before .before .before .before .before .before .block-work in
+    let check-finite = c .before .before .before .before .before .before .before .before .before .before .before .before .before .before .before .before .before .before .check-finite in
+    let check-finite2 = c .before .before .before .before .before .before .before .before .before .before .before .before .before .before .check-finite2 in
+    let pre = c .before .before .before .before .before .before .before .before .before .before .before .before .before .before .before .before .before .before .before .before .before .before .pre in
+    job-ran _ (check-finite .result) (check-finite2 .result) (record { factorResult = (blocked-pipeline .result .factor); solverResult = (blocked-pipeline .result .solver); matrix = (blocked-pipeline .last .1 .1 .0); rhs = (blocked-pipeline .last .1 .1 .1 .0); work = (blocked-pipeline .last .1 .1 .1 .1 .0) }) (check-finite .ensures) (c .before .before .before .before .before .before .before .before .before .before .before .before .before .before .before .before .if1 .left) (check-finite2 .ensures) (c .before .before .before .before .before .before .before .before .before .before .before .before .if2 .left) (ended-as _ (new .result .order) (new .result .block) (block-work .result) _ (new .ensures .0) (new .ensures .1) (block-work .ensures) (omega (
+      arith,
+      (block-work .ensures),
+      work-small (new .result .order) (new .result .block) (omega (arith, (new .ensures .0), (pre .order))),
+    )) (blocked-pipeline .ensures))
 
 pub solve-job-spec : {M : Type 1} → statement M
 solve-job-spec =

@@ -47,12 +47,13 @@ loop-less : tie.Need-loop-less Inv-loop μ-loop
 loop-less c = omega arith
 
 loop-again : tie.Need-loop-again Inv-loop μ-loop
-loop-again c = (
-  omega arith,
-  c .before .before .loop .inv .1,
-  stored-next nan _ _ (c .before .before .loop .s) (c .before .before .loop .next) _ (omega arith) (c .before .before .loop .inv .2)
-      (ap (λ (u : Float). sub binary64 u (mul binary64 (getD (now (c .before .before .before .args .x)) (c .before .before .before .args .at + c .before .before .loop .s) nan) (c .before .before .before .args .y))) (c .before .before .loop .inv .2 .rest (c .before .before .loop .s) (le-refl _))),
-)
+loop-again c =
+    let a = c .before .before .before .args in (
+      omega arith,
+      c .before .before .loop .inv .1,
+      stored-next nan _ _ (c .before .before .loop .s) (c .before .before .loop .next) _ (omega arith) (c .before .before .loop .inv .2)
+          (ap (λ (u : Float). sub binary64 u (mul binary64 (getD (now (a .x)) (a .at + c .before .before .loop .s) nan) (a .y))) (c .before .before .loop .inv .2 .rest (c .before .before .loop .s) (le-refl _))),
+    )
 
 returns : tie.Need-returns Inv-loop μ-loop
 returns c = λ s h. c .before .loop .inv .2 .done s (omega arith)

@@ -54,13 +54,14 @@ loop-less : tie.Need-loop-less Inv-loop μ-loop
 loop-less c = omega arith
 
 loop-again : tie.Need-loop-again Inv-loop μ-loop
-loop-again c = (
-  omega arith,
-  c .before .before .loop .inv .1,
-  stored-next nan _ _ (c .before .before .loop .s) (c .before .before .loop .next) _ (omega arith) (c .before .before .loop .inv .2)
-      (ap (λ (u : Float). sub binary64 u (mul binary64 (getD (now (c .before .before .before .args .x)) (getD (c .before .before .before .args .t3) (c .before .before .loop .s) 0 + c .before .before .before .args .k) nan) (c .before .before .before .args .y)))
-      (c .before .before .loop .inv .2 .rest (c .before .before .loop .s) (le-refl _))),
-)
+loop-again c =
+    let a = c .before .before .before .args in (
+      omega arith,
+      c .before .before .loop .inv .1,
+      stored-next nan _ _ (c .before .before .loop .s) (c .before .before .loop .next) _ (omega arith) (c .before .before .loop .inv .2)
+          (ap (λ (u : Float). sub binary64 u (mul binary64 (getD (now (a .x)) (getD (a .t3) (c .before .before .loop .s) 0 + a .k) nan) (a .y)))
+          (c .before .before .loop .inv .2 .rest (c .before .before .loop .s) (le-refl _))),
+    )
 
 returns : tie.Need-returns Inv-loop μ-loop
 returns c = λ s h. c .before .loop .inv .2 .done s (omega arith)

@@ -41,7 +41,10 @@ loop-less : tie.Need-loop-less Inv-loop μ-loop
 loop-less c = omega arith
 
 loop-again : tie.Need-loop-again Inv-loop μ-loop
-loop-again c = (omega arith, falling-next (now (c .before .before .before .before .args .x)) (now (c .before .before .before .before .args .y)) (c .before .before .before .before .args .at) (c .before .before .before .loop .k) (c .before .before .before .before .args .t) (c .before .before .before .loop .value) (c .before .before .loop-test .taken) (c .before .before .before .loop .inv .0) (c .before .before .before .loop .inv .1))
+loop-again c =
+    let a = c .before .before .before .before .args in
+    let l = c .before .before .before .loop in
+    (omega arith, falling-next (now (a .x)) (now (a .y)) (a .at) (l .k) (a .t) (l .value) (c .before .before .loop-test .taken) (l .inv .0) (l .inv .1))
 
 returns : tie.Need-returns Inv-loop μ-loop
 returns c =

@@ -43,11 +43,13 @@ loop-less : tie.Need-loop-less Inv-loop μ-loop
 loop-less c = omega arith
 
 loop-again : tie.Need-loop-again Inv-loop μ-loop
-loop-again c = (
-  omega arith,
-  stored-next nan _ _ (c .before .before .before .loop .r) (c .before .before .before .loop .v) _ (omega arith) (c .before .before .before .loop .inv .1)
-      (ap (λ (u : Float). sub binary64 u (mul binary64 (getD (now (c .before .before .before .before .args .x)) (c .before .before .before .loop .r) nan) (c .before .before .before .before .args .y))) (c .before .before .before .loop .inv .1 .rest (c .before .before .before .loop .r) (le-refl _))),
-)
+loop-again c =
+    let l = c .before .before .before .loop in
+    let a = c .before .before .before .before .args in (
+      omega arith,
+      stored-next nan _ _ (l .r) (l .v) _ (omega arith) (l .inv .1)
+          (ap (λ (u : Float). sub binary64 u (mul binary64 (getD (now (a .x)) (l .r) nan) (a .y))) (l .inv .1 .rest (l .r) (le-refl _))),
+    )
 
 same-length : tie.Need-same-length Inv-loop μ-loop
 same-length c = c .before .loop .inv .1 .size

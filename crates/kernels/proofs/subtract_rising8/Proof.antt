@@ -34,17 +34,20 @@ loop-less : tie.Need-loop-less Inv-loop μ-loop
 loop-less c = omega arith
 
 loop-again : tie.Need-loop-again Inv-loop μ-loop
-loop-again c = (
-  omega arith,
-  λ s h.
-      c .step8 .ensures s h
-      ∙ rising-next (now (c .before .before .before .before .before .before .args .x)) (now (c .before .before .before .before .before .before .args .y)) (getD (c .before .before .before .before .before .before .args .at) s 0) (c .before .before .before .loop .k) (getD (c .before .before .before .before .before .before .args .t) s nan) (getD (c .before .before .before .loop .values) s nan) (c .before .before .before .loop .inv .1 s h),
-)
+loop-again c =
+    let a = c .before .before .before .before .before .before .args in
+    let l = c .before .before .before .loop in (
+      omega arith,
+      λ s h.
+          c .step8 .ensures s h
+          ∙ rising-next (now (a .x)) (now (a .y)) (getD (a .at) s 0) (l .k) (getD (a .t) s nan) (getD (l .values) s nan) (l .inv .1 s h),
+    )
 
 returns : tie.Need-returns Inv-loop μ-loop
 returns c =
-    let end : c .before .loop .k ≡ length (now (c .before .before .before .before .args .y)) = omega arith in
-    λ s h. c .before .loop .inv .1 s h ∙ ap (λ m. risingFrom (now (c .before .before .before .before .args .x)) (getD (c .before .before .before .before .args .at) s 0) (now (c .before .before .before .before .args .y)) m (getD (c .before .before .before .before .args .t) s nan)) end
+    let a = c .before .before .before .before .args in
+    let end : c .before .loop .k ≡ length (now (a .y)) = omega arith in
+    λ s h. c .before .loop .inv .1 s h ∙ ap (λ m. risingFrom (now (a .x)) (getD (a .at) s 0) (now (a .y)) m (getD (a .t) s nan)) end
 
 pub subtract-rising8-spec : {M : Type 1} → statement M
 subtract-rising8-spec =

@@ -46,11 +46,13 @@ loop-less c = omega arith
 
 loop-again : tie.Need-loop-again Inv-loop μ-loop
 loop-again c =
-    let m = c .before .before .before .before .args .m .now in
-    let x = c .before .before .before .before .args .x in
-    let y = c .before .before .before .before .args .y in
-    let k = c .before .before .before .loop .k in
-    (omega arith, ap (λ (v : Float). sub binary64 v (mul binary64 (rowAt m x k) (rowAt m y k))) (c .before .before .before .loop .inv .1) ∙ sym (minus-next (rowAt m x) (rowAt m y) k (c .before .before .before .before .args .t)))
+    let a = c .before .before .before .before .args in
+    let l = c .before .before .before .loop in
+    let m = a .m .now in
+    let x = a .x in
+    let y = a .y in
+    let k = l .k in
+    (omega arith, ap (λ (v : Float). sub binary64 v (mul binary64 (rowAt m x k) (rowAt m y k))) (l .inv .1) ∙ sym (minus-next (rowAt m x) (rowAt m y) k (a .t)))
 
 returns : tie.Need-returns Inv-loop μ-loop
 returns c =

@@ -19,9 +19,12 @@ same-length c = search needs
 
 returns : tie.Need-returns
 returns c =
+    let load-part16 = c .before .before .before .before .before .before .load-part16 in
+    let kernel16 = c .before .before .before .before .kernel16 in
+    let pre = c .before .before .before .before .before .before .before .before .before .before .pre in
     let a = c .before .before .before .before .before .before .before .before .before .before .args in
-    filled-lanes (a .m .now) _ (a .panel .now) (c .before .before .before .before .before .before .load-part16 .result) (c .before .before .before .before .kernel16 .result) (a .x) (a .y) (a .len) (a .count)
-    (omega (arith, c .before .before .before .before .before .before .before .before .before .before .pre)) (c .before .before .before .before .before .before .load-part16 .ensures) (c .before .before .before .before .kernel16 .ensures) (c .before .before .store-part16 .ensures)
+    filled-lanes (a .m .now) _ (a .panel .now) (load-part16 .result) (kernel16 .result) (a .x) (a .y) (a .len) (a .count)
+    (omega (arith, pre)) (load-part16 .ensures) (kernel16 .ensures) (c .before .before .store-part16 .ensures)
 
 pub update-part16-spec : {M : Type 1} → statement M
 update-part16-spec =

@@ -24,10 +24,15 @@ place-in-block-requires : tie.Need-place-in-block-requires Inv-loop μ-loop
 place-in-block-requires c κs = omega arith
 
 add-row : tie.Need-add-row Inv-loop μ-loop
-add-row c = omega (arith, c .place-in-block .ensures, c .before .before .before .before .before .pre .1 (c .before .before .loop .t) (c .before .loop-test .taken))
+add-row c =
+    let pre = c .before .before .before .before .before .pre in
+    omega (arith, c .place-in-block .ensures, pre .1 (c .before .before .loop .t) (c .before .loop-test .taken))
 
 pack-lane-requires : tie.Need-pack-lane-requires Inv-loop μ-loop
-pack-lane-requires c κs = omega (arith, c .before .place-in-block .ensures, c .before .before .before .before .before .before .pre .0, c .before .before .before .before .before .before .pre .1 (c .before .before .before .loop .t) (c .before .before .loop-test .taken))
+pack-lane-requires c κs =
+    let pre = c .before .before .before .before .before .before .pre in
+    let l = c .before .before .before .loop in
+    omega (arith, c .before .place-in-block .ensures, pre .0, pre .1 (l .t) (c .before .before .loop-test .taken))
 
 add-t : tie.Need-add-t Inv-loop μ-loop
 add-t c = omega arith
@@ -37,11 +42,15 @@ loop-less c = omega arith
 
 loop-again : tie.Need-loop-again Inv-loop μ-loop
 loop-again c =
+    let pre = c .before .before .before .before .before .before .before .before .before .pre in
     let a = c .before .before .before .before .before .before .before .before .before .args in
     let l = c .before .before .before .before .before .before .loop in (
       omega arith,
       omega (arith, c .before .before .pack-lane .ensures .kept),
-      packed-next (l .panel) _ (a .m .now) (a .source .start) (a .source .width) (a .first) (a .count) (l .t) (l .inv .2) (omega (arith, c .before .before .before .before .before .before .before .before .before .pre .0)) (rw (c .before .before .before .before .place-in-block .ensures) at (c .before .before .pack-lane .ensures)),
+      packed-next (l .panel) _ (a .m .now) (a .source .start) (a .source .width) (a .first) (a .count) (l .t) (l .inv .2) (omega (
+        arith,
+        pre .0,
+      )) (rw (c .before .before .before .before .place-in-block .ensures) at (c .before .before .pack-lane .ensures)),
     )
 
 same-length : tie.Need-same-length Inv-loop μ-loop

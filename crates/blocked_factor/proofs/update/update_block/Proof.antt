@@ -26,25 +26,51 @@ least-requires c κs = search needs
 
 update-panel-requires : tie.Need-update-panel-requires Inv-loop μ-loop
 update-panel-requires c κs =
+    let l = c .before .before .before .before .loop in
+    let pre = c .before .before .before .before .before .before .before .pre in
     let g = c .before .before .least .result in (
-      rw (c .before .before .before .before .loop .inv .2 .kept) (source-part (c .before .before .before .before .loop .s0) g (c .before .before .before .before .before .before .before .pre) (omega (arith, c .before .before .least .ensures, c .before .before .before .loop-test .taken))),
+      rw (l .inv .2 .kept) (source-part (l .s0) g (pre) (omega (
+        arith,
+        c .before .before .least .ensures,
+        c .before .before .before .loop-test .taken,
+      ))),
       omega (arith, c .before .before .least .ensures),
     )
 
 add-s0 : tie.Need-add-s0 Inv-loop μ-loop
-add-s0 c = omega (arith, c .before .before .before .before .before .before .before .least .ensures, c .before .before .before .before .before .before .before .before .loop-test .taken, c .before .before .before .before .before .before .before .before .before .before .before .before .pre .tall, c .before .before .before .before .before .before .before .before .before .before .before .before .pre .below, c .before .before .before .before .before .before .before .before .before .before .before .before .pre .order)
+add-s0 c =
+    let pre = c .before .before .before .before .before .before .before .before .before .before .before .before .pre in
+    omega (
+      arith,
+      c .before .before .before .before .before .before .before .least .ensures,
+      c .before .before .before .before .before .before .before .before .loop-test .taken,
+      pre .tall,
+      pre .below,
+      pre .order,
+    )
 
 loop-less : tie.Need-loop-less Inv-loop μ-loop
-loop-less c = omega (arith, c .before .before .before .before .before .before .before .least .ensures, c .before .before .before .before .before .before .before .before .loop-test .taken)
+loop-less c = omega (
+  arith,
+  c .before .before .before .before .before .before .before .least .ensures,
+  c .before .before .before .before .before .before .before .before .loop-test .taken,
+)
 
 loop-again : tie.Need-loop-again Inv-loop μ-loop
 loop-again c =
+    let least = c .before .before .before .before .before .before .before .least in
+    let update-panel = c .before .before .before .before .update-panel in
+    let pre = c .before .before .before .before .before .before .before .before .before .before .before .before .pre in
     let a = c .before .before .before .before .before .before .before .before .before .before .before .before .args in
     let l = c .before .before .before .before .before .before .before .before .before .loop in
-    let fit : l .s0 + c .before .before .before .before .before .before .before .least .result ≤ a .target .width = omega (arith, c .before .before .before .before .before .before .before .least .ensures, c .before .before .before .before .before .before .before .before .loop-test .taken) in (
+    let fit : l .s0 + least .result ≤ a .target .width = omega (
+      arith,
+      least .ensures,
+      c .before .before .before .before .before .before .before .before .loop-test .taken,
+    ) in (
       fit,
-      omega (arith, l .inv .1, c .before .before .before .before .update-panel .kept .1 .0),
-      columns-next (a .m .now) (l .m) _ (c .before .before .before .before .before .before .before .before .before .before .before .before .pre) (l .s0) (c .before .before .before .before .before .before .before .least .result) fit (l .inv .2) (c .before .before .before .before .update-panel .ensures),
+      omega (arith, l .inv .1, update-panel .kept .1 .0),
+      columns-next (a .m .now) (l .m) _ (pre) (l .s0) (least .result) fit (l .inv .2) (update-panel .ensures),
     )
 
 same-length : tie.Need-same-length Inv-loop μ-loop
@@ -55,7 +81,8 @@ same-length-2 c = c .before .loop .inv .1
 
 returns : tie.Need-returns Inv-loop μ-loop
 returns c =
-    let e : c .before .loop .s0 ≡ c .before .before .before .before .args .target .width = omega (arith, c .loop-test .left, c .before .loop .inv .0) in
+    let a = c .before .before .before .before .args in
+    let e : c .before .loop .s0 ≡ a .target .width = omega (arith, c .loop-test .left, c .before .loop .inv .0) in
     rw e at (c .before .loop .inv .2)
 
 pub update-block-spec : {M : Type 1} → statement M

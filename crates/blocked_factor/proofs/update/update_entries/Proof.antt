@@ -28,7 +28,9 @@ place-in-block-requires : tie.Need-place-in-block-requires Inv-loop μ-loop
 place-in-block-requires c κs = omega arith
 
 add-row : tie.Need-add-row Inv-loop μ-loop
-add-row c = omega (arith, c .place-in-block .ensures, c .before .before .before .before .pre .1 (c .before .before .loop .t) (c .before .loop-test .taken))
+add-row c =
+    let pre = c .before .before .before .before .pre in
+    omega (arith, c .place-in-block .ensures, pre .1 (c .before .before .loop .t) (c .before .loop-test .taken))
 
 add-minus-products : tie.Need-add-minus-products Inv-loop μ-loop
 add-minus-products c = omega arith
@@ -40,7 +42,10 @@ slice-reshared-read-minus-products : tie.Need-slice-reshared-read-minus-products
 slice-reshared-read-minus-products c = omega (arith, c .before .before .before .loop .inv .1 .size)
 
 minus-products-requires : tie.Need-minus-products-requires Inv-loop μ-loop
-minus-products-requires c κs = omega (arith, c .before .place-in-block .ensures, c .before .before .before .before .before .pre .1 (c .before .before .before .loop .t) (c .before .before .loop-test .taken), c .before .before .before .loop .inv .1 .size)
+minus-products-requires c κs =
+    let l = c .before .before .before .loop in
+    let pre = c .before .before .before .before .before .pre in
+    omega (arith, c .before .place-in-block .ensures, pre .1 (l .t) (c .before .before .loop-test .taken), l .inv .1 .size)
 
 add-m : tie.Need-add-m Inv-loop μ-loop
 add-m c = omega arith
@@ -59,12 +64,13 @@ loop-less c = omega arith
 
 loop-again : tie.Need-loop-again Inv-loop μ-loop
 loop-again c =
+    let pre = c .before .before .before .before .before .before .pre in
     let a = c .before .before .before .before .before .before .args in
     let l = c .before .before .before .before .loop in
     let v = c .minus-products .result in (
       omega arith,
       entries-next (a .m .now) (l .m) (a .source .start) (a .source .width) (a .first) (a .x) (a .y) (a .count) (l .t) v
-          (omega (arith, c .before .before .before .before .before .before .pre .0)) (c .before .before .before .before .before .before .pre .1 (l .t) (c .before .before .before .loop-test .taken)) (omega (arith, c .before .before .before .before .before .before .pre .0)) (l .inv .1)
+          (omega (arith, pre .0)) (pre .1 (l .t) (c .before .before .before .loop-test .taken)) (omega (arith, pre .0)) (l .inv .1)
           (rw (c .before .before .place-in-block .ensures) at (c .minus-products .ensures)),
     )
 

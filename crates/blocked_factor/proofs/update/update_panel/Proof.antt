@@ -15,13 +15,32 @@ add-first : tie.Need-add-first
 add-first c = search needs
 
 pack-requires : tie.Need-pack-requires
-pack-requires c κs = pack-ready (c .before .before .before .before .before .before .before .pre .0) _ (c .before .before .before .before .before .before .before .pre .1) (c .before .before .before .before .if1 .taken)
+pack-requires c κs =
+    let pre = c .before .before .before .before .before .before .before .pre in
+    pack-ready (pre .0) _ (pre .1) (c .before .before .before .before .if1 .taken)
 
 update-rows-requires : tie.Need-update-rows-requires
-update-rows-requires c κs = (c .before .before .before .before .before .before .before .before .before .before .before .before .pre .0, (c .before .before .before .before .before .before .before .before .before .before .before .before .pre .1, (λ always. (omega (arith, c .before .before .before .before .before .before .before .before .before .if1 .taken, c .before .before .before .before .pack .kept .0), c .before .before .before .before .pack .ensures))))
+update-rows-requires c κs =
+    let pre = c .before .before .before .before .before .before .before .before .before .before .before .before .pre in
+    let pack = c .before .before .before .before .pack in (
+      pre .0,
+      (
+        pre .1,
+        (λ always. (
+          omega (
+            arith,
+            c .before .before .before .before .before .before .before .before .before .if1 .taken,
+            pack .kept .0,
+          ),
+          pack .ensures,
+        )),
+      ),
+    )
 
 update-rows-requires-2 : tie.Need-update-rows-requires-2
-update-rows-requires-2 c κs = (c .before .before .before .before .before .pre .0, (c .before .before .before .before .before .pre .1, (λ never. absurd never)))
+update-rows-requires-2 c κs =
+    let pre = c .before .before .before .before .before .pre in
+    (pre .0, (pre .1, (λ never. absurd never)))
 
 same-length : tie.Need-same-length
 same-length c = search needs

@@ -8,10 +8,14 @@ use Rattle.blocked_factor.proofs.update.update_row.Statement.{statement
 use Rattle.blocked_factor.proofs.update.update_row.Tie as tie
 
 update16-requires : tie.Need-update16-requires
-update16-requires c κs = omega (arith, c .before .before .before .before .before .pre .0, c .before .before .before .before .before .pre .1 .1 (subst T (sym (c .before .before .if1 .taken)) tt) .0, c .before .if2 .taken)
+update16-requires c κs =
+    let pre = c .before .before .before .before .before .pre in
+    omega (arith, pre .0, pre .1 .1 (subst T (sym (c .before .before .if1 .taken)) tt) .0, c .before .if2 .taken)
 
 update-part16-requires : tie.Need-update-part16-requires
-update-part16-requires c κs = omega (arith, c .before .before .before .before .before .pre .0, c .before .before .before .before .before .pre .1 .1 (subst T (sym (c .before .before .if1 .taken)) tt) .0)
+update-part16-requires c κs =
+    let pre = c .before .before .before .before .before .pre in
+    omega (arith, pre .0, pre .1 .1 (subst T (sym (c .before .before .if1 .taken)) tt) .0)
 
 update-entries-requires : tie.Need-update-entries-requires
 update-entries-requires c κs = search needs
@@ -21,8 +25,9 @@ same-length c = search needs
 
 returns : tie.Need-returns
 returns c =
+    let pre = c .before .before .before .before .before .before .before .before .pre in
     let a = c .before .before .before .before .before .before .before .before .args in
-    let packed = c .before .before .before .before .before .before .before .before .pre .1 .1 (subst T (sym (c .before .before .before .before .before .if1 .taken)) tt) .1 in
+    let packed = pre .1 .1 (subst T (sym (c .before .before .before .before .before .if1 .taken)) tt) .1 in
     let full : a .len ≡ 16 = c .before .before .before .before .if2 .taken in
     rw full
     (filled-packed (a .m .now) _ (a .panel .now) (a .source .start) (a .source .width) (a .first) (a .x) (a .y) 16 (a .count) (rw full at packed)
@@ -33,9 +38,10 @@ same-length-2 c = search needs
 
 returns-2 : tie.Need-returns-2
 returns-2 c =
+    let pre = c .before .before .before .before .before .before .before .before .pre in
     let a = c .before .before .before .before .before .before .before .before .args in
     filled-packed (a .m .now) _ (a .panel .now) (a .source .start) (a .source .width) (a .first) (a .x) (a .y) (a .len) (a .count)
-    (c .before .before .before .before .before .before .before .before .pre .1 .1 (subst T (sym (c .before .before .before .before .before .if1 .taken)) tt) .1) (c .before .before .update-part16 .ensures)
+    (pre .1 .1 (subst T (sym (c .before .before .before .before .before .if1 .taken)) tt) .1) (c .before .before .update-part16 .ensures)
 
 same-length-3 : tie.Need-same-length-3
 same-length-3 c = search needs

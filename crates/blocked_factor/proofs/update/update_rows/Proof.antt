@@ -25,62 +25,83 @@ sub-above : tie.Need-sub-above Inv-loop μ-loop
 sub-above c = omega (arith, c .before .before .before .before .pre .0 .below)
 
 add-first : tie.Need-add-first Inv-loop μ-loop
-add-first c = omega (arith, c .before .before .before .before .pre .0 .below, c .before .before .before .before .pre .0 .order, c .before .before .before .before .pre .0 .wide, c .before .before .before .before .pre .0 .tall)
+add-first c =
+    let pre = c .before .before .before .before .pre in
+    omega (arith, pre .0 .below, pre .0 .order, pre .0 .wide, pre .0 .tall)
 
 place-in-block-requires : tie.Need-place-in-block-requires Inv-loop μ-loop
-place-in-block-requires c κs = omega (arith, c .before .before .before .before .pre .0 .below, c .before .before .before .before .pre .0 .order, c .before .before .before .before .pre .0 .wide, c .before .before .before .before .pre .0 .tall)
+place-in-block-requires c κs =
+    let pre = c .before .before .before .before .pre in
+    omega (arith, pre .0 .below, pre .0 .order, pre .0 .wide, pre .0 .tall)
 
 add-x : tie.Need-add-x Inv-loop μ-loop
 add-x c =
+    let pre = c .before .before .before .before .before .before .pre in
+    let a = c .before .before .before .before .before .before .args in
     omega (
       arith,
       c .before .place-in-block .ensures,
-      c .before .before .before .before .before .before .pre .0 .rows,
-      c .before .before .before .before .before .before .pre .0 .wide,
-      c .before .before .before .before .before .before .pre .0 .tall,
-      c .before .before .before .before .before .before .pre .0 .below,
+      pre .0 .rows,
+      pre .0 .wide,
+      pre .0 .tall,
+      pre .0 .below,
       c .before .before .before .before .before .before .good,
-      row-mono (c .before .before .before .before .before .before .args .source .width) (c .before .before .before .before .before .before .args .source .rows - c .before .before .before .before .before .before .args .target .rows + c .before .before .before .before .before .before .args .s0) (c .before .before .before .before .before .before .args .source .rows) (omega (arith, c .before .before .before .before .before .before .pre .0 .wide, c .before .before .before .before .before .before .pre .0 .tall, c .before .before .before .before .before .before .pre .0 .below)),
+      row-mono (a .source .width) (a .source .rows - a .target .rows + a .s0) (a .source .rows) (omega (
+        arith,
+        pre .0 .wide,
+        pre .0 .tall,
+        pre .0 .below,
+      )),
     )
 
 place-in-block-requires-2 : tie.Need-place-in-block-requires-2 Inv-loop μ-loop
-place-in-block-requires-2 c κs = omega (arith, c .before .before .before .before .before .before .pre .0 .below, c .before .before .before .before .before .before .pre .0 .order, c .before .before .before .before .before .before .pre .0 .wide, c .before .before .before .before .before .before .pre .0 .tall)
+place-in-block-requires-2 c κs =
+    let pre = c .before .before .before .before .before .before .pre in
+    omega (arith, pre .0 .below, pre .0 .order, pre .0 .wide, pre .0 .tall)
 
 add-y : tie.Need-add-y Inv-loop μ-loop
 add-y c =
+    let pre = c .before .before .before .before .before .before .before .before .pre in
+    let a = c .before .before .before .before .before .before .before .before .args in
     omega (
       arith,
       c .before .place-in-block2 .ensures,
-      c .before .before .before .before .before .before .before .before .pre .0 .room,
+      pre .0 .room,
       c .before .before .before .before .before .before .before .before .good,
-      row-mono (c .before .before .before .before .before .before .before .before .args .target .width) (c .before .before .before .before .before .before .before .before .args .s0) (c .before .before .before .before .before .before .before .before .args .target .rows) (omega (arith, c .before .before .before .before .before .before .before .before .pre .0 .wide, c .before .before .before .before .before .before .before .before .pre .0 .tall)),
+      row-mono (a .target .width) (a .s0) (a .target .rows) (omega (arith, pre .0 .wide, pre .0 .tall)),
     )
 
 add-y-2 : tie.Need-add-y-2 Inv-loop μ-loop
 add-y-2 c =
+    let pre = c .before .before .before .before .before .before .before .before .pre in
+    let a = c .before .before .before .before .before .before .before .before .args in
     omega (
       arith,
       c .before .place-in-block2 .ensures,
-      c .before .before .before .before .before .before .before .before .pre .0 .room,
-      c .before .before .before .before .before .before .before .before .pre .0 .wide,
-      c .before .before .before .before .before .before .before .before .pre .0 .tall,
-      c .before .before .before .before .before .before .before .before .pre .0 .below,
-      c .before .before .before .before .before .before .before .before .pre .0 .order,
+      pre .0 .room,
+      pre .0 .wide,
+      pre .0 .tall,
+      pre .0 .below,
+      pre .0 .order,
       c .before .before .before .before .before .before .before .before .good,
-      row-mono (c .before .before .before .before .before .before .before .before .args .target .width) (c .before .before .before .before .before .before .before .before .args .s0) (c .before .before .before .before .before .before .before .before .args .target .rows) (omega (arith, c .before .before .before .before .before .before .before .before .pre .0 .wide, c .before .before .before .before .before .before .before .before .pre .0 .tall)),
+      row-mono (a .target .width) (a .s0) (a .target .rows) (omega (arith, pre .0 .wide, pre .0 .tall)),
     )
 
 loop-holds : tie.Need-loop-holds Inv-loop μ-loop
-loop-holds c = (
-  le-refl _,
-  omega (arith, c .before .before .before .before .before .before .before .before .pre .0 .wide, c .before .before .before .before .before .before .before .before .pre .0 .tall),
-  ap (λ (z : ℕ). c .before .before .before .before .before .before .before .before .args .source .start + z) (c .before .before .before .place-in-block .ensures),
-  ap (λ (z : ℕ). c .before .before .before .before .before .before .before .before .args .target .start + z + c .before .before .before .before .before .before .before .before .args .s0) (c .before .place-in-block2 .ensures),
-  panel-none _ _ _ _ _ _ _,
-)
+loop-holds c =
+    let a = c .before .before .before .before .before .before .before .before .args in
+    let pre = c .before .before .before .before .before .before .before .before .pre in (
+      le-refl _,
+      omega (arith, pre .0 .wide, pre .0 .tall),
+      ap (λ (z : ℕ). a .source .start + z) (c .before .before .before .place-in-block .ensures),
+      ap (λ (z : ℕ). a .target .start + z + a .s0) (c .before .place-in-block2 .ensures),
+      panel-none _ _ _ _ _ _ _,
+    )
 
 add-least : tie.Need-add-least Inv-loop μ-loop
-add-least c = omega (arith, c .before .before .before .before .before .before .before .before .before .before .before .pre .0 .below, c .before .before .before .before .before .before .before .before .before .before .before .pre .0 .order, c .if1 .taken)
+add-least c =
+    let pre = c .before .before .before .before .before .before .before .before .before .before .before .pre in
+    omega (arith, pre .0 .below, pre .0 .order, c .if1 .taken)
 
 sub-least : tie.Need-sub-least Inv-loop μ-loop
 sub-least c = omega (arith, c .before .before .loop .inv .0)
@@ -90,32 +111,42 @@ least-requires c κs = search needs
 
 update-row-requires : tie.Need-update-row-requires Inv-loop μ-loop
 update-row-requires c κs =
+    let a = c .before .before .before .before .before .before .before .before .before .before .before .before .before .args in
+    let pre = c .before .before .before .before .before .before .before .before .before .before .before .before .before .pre in
     let l = c .before .before .before .before .loop in
     rw (l .inv .2)
-    (row-ready (c .before .before .before .before .before .before .before .before .before .before .before .before .before .args .m .now) (l .m) (l .m) (c .before .before .before .before .before .before .before .before .before .before .before .before .before .pre .0) (l .r) (l .inv .0) (c .before .before .if1 .taken) (l .inv .4) (c .before .before .before .before .before .before .before .before .before .before .before .before .before .args .panel .now) (c .before .before .before .before .before .before .before .before .before .before .before .before .before .args .packed) _ _ (c .before .before .before .before .before .before .before .before .before .before .before .before .before .pre .1 .0) (c .before .before .before .before .before .before .before .before .before .before .before .before .before .pre .1 .1)
+    (row-ready (a .m .now) (l .m) (l .m) (pre .0) (l .r) (l .inv .0) (c .before .before .if1 .taken) (l .inv .4) (a .panel .now) (a .packed) _ _ (pre .1 .0) (pre .1 .1)
     (l .inv .3) (c .before .least .ensures))
 
 add-r : tie.Need-add-r Inv-loop μ-loop
-add-r c = omega (arith, c .before .before .before .before .before .before .before .before .before .before .before .before .before .before .before .before .pre .0 .below, c .before .before .before .before .before .before .before .before .before .before .before .before .before .before .before .before .pre .0 .order, c .before .before .before .before .before .if1 .taken)
+add-r c =
+    let pre = c .before .before .before .before .before .before .before .before .before .before .before .before .before .before .before .before .pre in
+    omega (arith, pre .0 .below, pre .0 .order, c .before .before .before .before .before .if1 .taken)
 
 add-least-2 : tie.Need-add-least-2 Inv-loop μ-loop
-add-least-2 c = omega (arith, c .before .before .before .before .before .before .before .before .before .before .before .before .before .before .before .before .pre .0 .below, c .before .before .before .before .before .before .before .before .before .before .before .before .before .before .before .before .pre .0 .order, c .before .before .before .before .before .if1 .taken)
+add-least-2 c =
+    let pre = c .before .before .before .before .before .before .before .before .before .before .before .before .before .before .before .before .pre in
+    omega (arith, pre .0 .below, pre .0 .order, c .before .before .before .before .before .if1 .taken)
 
 least-requires-2 : tie.Need-least-requires-2 Inv-loop μ-loop
 least-requires-2 c κs = search needs
 
 add-x-2 : tie.Need-add-x-2 Inv-loop μ-loop
 add-x-2 c =
+    let a = c .before .before .before .before .before .before .before .before .before .before .before .before .before .before .before .before .before .args in
+    let l = c .before .before .before .before .before .before .before .before .loop in
+    let pre = c .before .before .before .before .before .before .before .before .before .before .before .before .before .before .before .before .before .pre in
+    let if1 = c .before .before .before .before .before .before .if1 in
     omega (
       arith,
       c .least2 .ensures,
-      c .before .before .before .before .before .before .before .before .loop .inv .2,
-      c .before .before .before .before .before .before .before .before .before .before .before .before .before .before .before .before .before .pre .0 .rows,
-      c .before .before .before .before .before .before .before .before .before .before .before .before .before .before .before .before .before .pre .0 .below,
-      c .before .before .before .before .before .before .if1 .taken,
+      l .inv .2,
+      pre .0 .rows,
+      pre .0 .below,
+      if1 .taken,
       c .before .before .before .before .before .before .before .before .before .before .before .before .before .before .before .before .before .good,
-      row-next (c .before .before .before .before .before .before .before .before .before .before .before .before .before .before .before .before .before .args .source .width) (c .before .before .before .before .before .before .before .before .before .before .before .before .before .before .before .before .before .args .source .rows - c .before .before .before .before .before .before .before .before .before .before .before .before .before .before .before .before .before .args .target .rows + c .before .before .before .before .before .before .before .before .loop .r),
-      row-mono (c .before .before .before .before .before .before .before .before .before .before .before .before .before .before .before .before .before .args .source .width) (c .before .before .before .before .before .before .before .before .before .before .before .before .before .before .before .before .before .args .source .rows - c .before .before .before .before .before .before .before .before .before .before .before .before .before .before .before .before .before .args .target .rows + c .before .before .before .before .before .before .before .before .loop .r + 1) (c .before .before .before .before .before .before .before .before .before .before .before .before .before .before .before .before .before .args .source .rows) (omega (arith, c .before .before .before .before .before .before .before .before .before .before .before .before .before .before .before .before .before .pre .0 .below, c .before .before .before .before .before .before .if1 .taken)),
+      row-next (a .source .width) (a .source .rows - a .target .rows + l .r),
+      row-mono (a .source .width) (a .source .rows - a .target .rows + l .r + 1) (a .source .rows) (omega (arith, pre .0 .below, if1 .taken)),
     )
 
 least-requires-3 : tie.Need-least-requires-3 Inv-loop μ-loop
@@ -123,19 +154,23 @@ least-requires-3 c κs = search needs
 
 add-y-3 : tie.Need-add-y-3 Inv-loop μ-loop
 add-y-3 c =
+    let pre = c .before .before .before .before .before .before .before .before .before .before .before .before .before .before .before .before .before .before .pre in
+    let l = c .before .before .before .before .before .before .before .before .before .loop in
+    let a = c .before .before .before .before .before .before .before .before .before .before .before .before .before .before .before .before .before .before .args in
+    let if1 = c .before .before .before .before .before .before .before .if1 in
     omega (
       arith,
       c .least3 .ensures,
-      c .before .before .before .before .before .before .before .before .before .loop .inv .3,
-      c .before .before .before .before .before .before .before .before .before .before .before .before .before .before .before .before .before .before .pre .0 .room,
-      c .before .before .before .before .before .before .before .before .before .before .before .before .before .before .before .before .before .before .pre .0 .wide,
-      c .before .before .before .before .before .before .before .before .before .before .before .before .before .before .before .before .before .before .pre .0 .tall,
-      c .before .before .before .before .before .before .before .before .before .before .before .before .before .before .before .before .before .before .pre .0 .below,
-      c .before .before .before .before .before .before .before .before .before .before .before .before .before .before .before .before .before .before .pre .0 .order,
-      c .before .before .before .before .before .before .before .if1 .taken,
+      l .inv .3,
+      pre .0 .room,
+      pre .0 .wide,
+      pre .0 .tall,
+      pre .0 .below,
+      pre .0 .order,
+      if1 .taken,
       c .before .before .before .before .before .before .before .before .before .before .before .before .before .before .before .before .before .before .good,
-      row-next (c .before .before .before .before .before .before .before .before .before .before .before .before .before .before .before .before .before .before .args .target .width) (c .before .before .before .before .before .before .before .before .before .loop .r),
-      row-mono (c .before .before .before .before .before .before .before .before .before .before .before .before .before .before .before .before .before .before .args .target .width) (c .before .before .before .before .before .before .before .before .before .loop .r + 1) (c .before .before .before .before .before .before .before .before .before .before .before .before .before .before .before .before .before .before .args .target .rows) (omega (arith, c .before .before .before .before .before .before .before .if1 .taken)),
+      row-next (a .target .width) (l .r),
+      row-mono (a .target .width) (l .r + 1) (a .target .rows) (omega (arith, if1 .taken)),
     )
 
 loop-less : tie.Need-loop-less Inv-loop μ-loop
@@ -143,14 +178,22 @@ loop-less c = omega (arith, c .before .before .before .before .before .before .b
 
 loop-again : tie.Need-loop-again Inv-loop μ-loop
 loop-again c =
+    let if1 = c .before .before .before .before .before .before .before .if1 in
+    let pre = c .before .before .before .before .before .before .before .before .before .before .before .before .before .before .before .before .before .before .pre in
     let a = c .before .before .before .before .before .before .before .before .before .before .before .before .before .before .before .before .before .before .args in
     let l = c .before .before .before .before .before .before .before .before .before .loop in
     let source-next : a .source .rows - a .target .rows + l .r + 1 ≡ a .source .rows - a .target .rows + (l .r + 1) = omega arith in (
       omega (arith, l .inv .0),
-      omega (arith, c .before .before .before .before .before .before .before .if1 .taken),
-      omega (arith, c .before .least2 .ensures, l .inv .2, row-next (a .source .width) (a .source .rows - a .target .rows + l .r), ap (rowStart (a .source .width)) source-next),
+      omega (arith, if1 .taken),
+      omega (
+        arith,
+        c .before .least2 .ensures,
+        l .inv .2,
+        row-next (a .source .width) (a .source .rows - a .target .rows + l .r),
+        ap (rowStart (a .source .width)) source-next,
+      ),
       omega (arith, c .least3 .ensures, l .inv .3, row-next (a .target .width) (l .r)),
-      panel-next (a .m .now) (l .m) _ (c .before .before .before .before .before .before .before .before .before .before .before .before .before .before .before .before .before .before .pre .0) (l .r) (l .inv .0) (c .before .before .before .before .before .before .before .if1 .taken) (l .inv .4)
+      panel-next (a .m .now) (l .m) _ (pre .0) (l .r) (l .inv .0) (if1 .taken) (l .inv .4)
           (rw (l .inv .2, l .inv .3, c .before .before .before .before .before .before .least .ensures) at (c .before .before .before .before .update-row .ensures)),
     )
 
@@ -159,7 +202,8 @@ same-length c = c .before .before .loop .inv .4 .kept
 
 returns : tie.Need-returns Inv-loop μ-loop
 returns c =
-    let e : c .before .before .loop .r ≡ c .before .before .before .before .before .before .before .before .before .before .before .args .target .rows = omega (arith, c .if1 .left, c .before .before .loop .inv .1) in
+    let a = c .before .before .before .before .before .before .before .before .before .before .before .args in
+    let e : c .before .before .loop .r ≡ a .target .rows = omega (arith, c .if1 .left, c .before .before .loop .inv .1) in
     rw e at (c .before .before .loop .inv .4)
 
 pub update-rows-spec : {M : Type 1} → statement M

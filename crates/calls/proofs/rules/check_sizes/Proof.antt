@@ -79,6 +79,7 @@ refusal-requires-4 c κs = search needs
 returns-4 : tie.Need-returns-4
 unfolding firstRefusal rule1 rule2 rule3 rule4
 returns-4 c =
+    let needed-work = c .before .before .needed-work in
     let args = c .before .before .before .before .before .before .before .before .before .before .args in
     let e1 : ltb maxOrder (args .shape .order) ≡ false = cc (not-leb (args .shape .order) maxOrder) in
     let e2 : byBlocks (args .call) && (eqb (args .shape .block) 0 || ltb maxBlock (args .shape .block)) ≡ false = cc (block-test (args .shape .block)) in
@@ -86,7 +87,7 @@ returns-4 c =
     rw (← c .before .before .before .before .triangle .ensures) (eq-eqb (args .matrix) (c .before .before .before .before .triangle .result) (c .before .before .before .if3 .left))
     in
     let e4 : ltb (args .work) (neededWork (args .call) (args .shape .order) (args .shape .block)) ≡ true =
-    rw (← c .before .before .needed-work .ensures) (lt-ltb (args .work) (c .before .before .needed-work .result) (c .before .if4 .taken))
+    rw (← needed-work .ensures) (lt-ltb (args .work) (needed-work .result) (c .before .if4 .taken))
     in
     rw (e1, e2, e3, e4) (c .refusal4 .ensures)
 
@@ -96,6 +97,7 @@ refusal-requires-5 c κs = search needs
 returns-5 : tie.Need-returns-5
 unfolding firstRefusal rule1 rule2 rule3 rule4
 returns-5 c =
+    let needed-work = c .before .before .needed-work in
     let args = c .before .before .before .before .before .before .before .before .before .before .args in
     let e1 : ltb maxOrder (args .shape .order) ≡ false = cc (not-leb (args .shape .order) maxOrder) in
     let e2 : byBlocks (args .call) && (eqb (args .shape .block) 0 || ltb maxBlock (args .shape .block)) ≡ false = cc (block-test (args .shape .block)) in
@@ -103,7 +105,7 @@ returns-5 c =
     rw (← c .before .before .before .before .triangle .ensures) (eq-eqb (args .matrix) (c .before .before .before .before .triangle .result) (c .before .before .before .if3 .left))
     in
     let e4 : ltb (args .work) (neededWork (args .call) (args .shape .order) (args .shape .block)) ≡ false =
-    rw (← c .before .before .needed-work .ensures) (le-ltb (args .work) (c .before .before .needed-work .result) (c .before .if4 .left))
+    rw (← needed-work .ensures) (le-ltb (args .work) (needed-work .result) (c .before .if4 .left))
     in
     rw (e1, e2, e3, e4) (c .refusal5 .ensures)
 

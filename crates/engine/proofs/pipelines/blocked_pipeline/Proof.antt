@@ -30,7 +30,13 @@ blocked-to-packed-requires : tie.Need-blocked-to-packed-requires
 blocked-to-packed-requires c κs = search needs
 
 same-length-3 : tie.Need-same-length-3
-same-length-3 c = omega (arith, c .before .before .before .before .before .before .before .before .before .before .before .before .before .before .before .before .before .before .before .before .before .before .before .before .before .before .before .before .packed-to-blocked .kept, c .before .before .before .before .before .before .before .before .before .before .before .before .before .before .before .before .before .before .before .before .before .factor .kept, c .before .before .before .before .before .before .before .before .before .before .before .solve-blocked .kept, c .before .before .before .before .blocked-to-packed .kept)
+same-length-3 c = omega (
+  arith,
+  c .before .before .before .before .before .before .before .before .before .before .before .before .before .before .before .before .before .before .before .before .before .before .before .before .before .before .before .before .packed-to-blocked .kept,
+  c .before .before .before .before .before .before .before .before .before .before .before .before .before .before .before .before .before .before .before .before .before .factor .kept,
+  c .before .before .before .before .before .before .before .before .before .before .before .solve-blocked .kept,
+  c .before .before .before .before .blocked-to-packed .kept,
+)
 
 same-length-4 : tie.Need-same-length-4
 same-length-4 c = search needs

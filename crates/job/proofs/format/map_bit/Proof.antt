@@ -17,7 +17,9 @@ shr-result : tie.Need-shr-result
 shr-result c = search needs
 
 returns : tie.Need-returns
-returns c = bit-at (c .before .before .before .before .args .file .now) (c .before .before .before .before .args .p) (c .wide .result) (c .wide .ensures)
+returns c =
+    let a = c .before .before .before .before .args in
+    bit-at (a .file .now) (a .p) (c .wide .result) (c .wide .ensures)
 
 returns-2 : tie.Need-returns-2
 returns-2 c = bit-past (c .before .before .args .file .now) (c .before .before .args .p) (c .if1 .left)

@@ -8,7 +8,9 @@ map-bit-requires : tie.Need-map-bit-requires
 map-bit-requires c κs = search needs
 
 returns : tie.Need-returns
-returns c = present-mapped (c .before .before .before .args .file .now) (c .before .before .before .args .mapped) (c .before .before .before .args .k) (c .map-bit .result) (c .before .if1 .taken) (c .map-bit .ensures)
+returns c =
+    let a = c .before .before .before .args in
+    present-mapped (a .file .now) (a .mapped) (a .k) (c .map-bit .result) (c .before .if1 .taken) (c .map-bit .ensures)
 
 returns-2 : tie.Need-returns-2
 returns-2 c = present-all (c .before .before .args .file .now) (c .before .before .args .mapped) (c .before .before .args .k) (c .if1 .left)

@@ -32,13 +32,23 @@ same-length-2 : tie.Need-same-length-2
 same-length-2 c = search needs
 
 returns : tie.Need-returns
-returns c = contents-found (c .before .before .before .before .before .before .before .before .before .before .before .before .before .before .before .before .before .before .args .file .now) (c .before .before .before .before .before .before .before .before .before .before .before .before .before .before .before .before .before .before .args .sizes) (c .before .before .before .before .before .before .before .before .before .before .before .before .before .before .before .before .before .before .args .at) (length (c .before .before .before .before .before .before .before .before .before .before .before .before .before .before .before .before .before .before .args .matrix .now)) (c .before .before .before .before .before .before .before .before .before .at .given .0 .0) (c .before .before .before .before .before .before .before .before .before .before .before .before .before .read-values .last .1 .1 .1 .0) (c .before .before .before .before .before .before .before .before .before .before .before .before .before .before .before .before .before .before .pre .0) (sym (ap (parsedAs (c .before .before .before .before .before .before .before .before .before .before .before .before .before .read-values .last .1 .1 .1 .0)) (c .before .before .before .before .before .before .before .before .before .at .given .1)) ∙ (c .before .before .before .before .before .before .before .before .before .before .before .before .before .read-values .ensures)) (length (c .before .before .before .before .before .before .before .before .before .before .before .before .before .before .before .before .before .before .args .rhs .now)) (c .before .before .before .before .before .before .before .before .before .before .before .before .before .before .before .before .before .before .pre .1) (c .before .before .at2 .given .0 .0) (c .before .before .before .before .before .before .read-values2 .last .1 .1 .1 .0) (sym (ap (parsedAs (c .before .before .before .before .before .before .read-values2 .last .1 .1 .1 .0)) (c .before .before .at2 .given .1)) ∙ (c .before .before .before .before .before .before .read-values2 .ensures)) (c .if1 .taken)
+returns c =
+    let a = c .before .before .before .before .before .before .before .before .before .before .before .before .before .before .before .before .before .before .args in
+    let read-values = c .before .before .before .before .before .before .before .before .before .before .before .before .before .read-values in
+    let read-values2 = c .before .before .before .before .before .before .read-values2 in
+    let at = c .before .before .before .before .before .before .before .before .before .at in
+    let pre = c .before .before .before .before .before .before .before .before .before .before .before .before .before .before .before .before .before .before .pre in
+    contents-found (a .file .now) (a .sizes) (a .at) (length (a .matrix .now)) (at .given .0 .0) (read-values .last .1 .1 .1 .0) (pre .0) (sym (ap (parsedAs (read-values .last .1 .1 .1 .0)) (at .given .1)) ∙ (read-values .ensures)) (length (a .rhs .now)) (pre .1) (c .before .before .at2 .given .0 .0) (read-values2 .last .1 .1 .1 .0) (sym (ap (parsedAs (read-values2 .last .1 .1 .1 .0)) (c .before .before .at2 .given .1)) ∙ (read-values2 .ensures)) (c .if1 .taken)
 
 same-length-3 : tie.Need-same-length-3
 same-length-3 c = search needs
 
 returns-2 : tie.Need-returns-2
-returns-2 c = contents-fault-matrix (c .before .before .before .before .before .before .before .before .before .before .args .file .now) (c .before .before .before .before .before .before .before .before .before .before .args .sizes) (c .before .before .before .before .before .before .before .before .before .before .args .at) (length (c .before .before .before .before .before .before .before .before .before .before .args .matrix .now)) (c .before .place .given .0 .0) (c .before .before .before .before .before .before .before .before .before .before .pre .0) (sym (ap (parsedAs (c .before .before .before .before .before .read-values .last .1 .1 .1 .0)) (c .before .place .given .1)) ∙ (c .before .before .before .before .before .read-values .ensures))
+returns-2 c =
+    let a = c .before .before .before .before .before .before .before .before .before .before .args in
+    let read-values = c .before .before .before .before .before .read-values in
+    let pre = c .before .before .before .before .before .before .before .before .before .before .pre in
+    contents-fault-matrix (a .file .now) (a .sizes) (a .at) (length (a .matrix .now)) (c .before .place .given .0 .0) (pre .0) (sym (ap (parsedAs (read-values .last .1 .1 .1 .0)) (c .before .place .given .1)) ∙ (read-values .ensures))
 
 same-length-4 : tie.Need-same-length-4
 same-length-4 c = search needs
@@ -47,7 +57,13 @@ same-length-5 : tie.Need-same-length-5
 same-length-5 c = search needs
 
 returns-3 : tie.Need-returns-3
-returns-3 c = contents-fault-rhs (c .before .before .before .before .before .before .before .before .before .before .before .before .before .before .before .before .before .args .file .now) (c .before .before .before .before .before .before .before .before .before .before .before .before .before .before .before .before .before .args .sizes) (c .before .before .before .before .before .before .before .before .before .before .before .before .before .before .before .before .before .args .at) (length (c .before .before .before .before .before .before .before .before .before .before .before .before .before .before .before .before .before .args .matrix .now)) (c .before .before .before .before .before .before .before .before .at .given .0 .0) (c .before .before .before .before .before .before .before .before .before .before .before .before .read-values .last .1 .1 .1 .0) (c .before .before .before .before .before .before .before .before .before .before .before .before .before .before .before .before .before .pre .0) (sym (ap (parsedAs (c .before .before .before .before .before .before .before .before .before .before .before .before .read-values .last .1 .1 .1 .0)) (c .before .before .before .before .before .before .before .before .at .given .1)) ∙ (c .before .before .before .before .before .before .before .before .before .before .before .before .read-values .ensures)) (length (c .before .before .before .before .before .before .before .before .before .before .before .before .before .before .before .before .before .args .rhs .now)) (c .before .before .before .before .before .before .before .before .before .before .before .before .before .before .before .before .before .pre .1) (c .before .place2 .given .0 .0) (sym (ap (parsedAs (c .before .before .before .before .before .read-values2 .last .1 .1 .1 .0)) (c .before .place2 .given .1)) ∙ (c .before .before .before .before .before .read-values2 .ensures))
+returns-3 c =
+    let a = c .before .before .before .before .before .before .before .before .before .before .before .before .before .before .before .before .before .args in
+    let read-values = c .before .before .before .before .before .before .before .before .before .before .before .before .read-values in
+    let at = c .before .before .before .before .before .before .before .before .at in
+    let pre = c .before .before .before .before .before .before .before .before .before .before .before .before .before .before .before .before .before .pre in
+    let read-values2 = c .before .before .before .before .before .read-values2 in
+    contents-fault-rhs (a .file .now) (a .sizes) (a .at) (length (a .matrix .now)) (at .given .0 .0) (read-values .last .1 .1 .1 .0) (pre .0) (sym (ap (parsedAs (read-values .last .1 .1 .1 .0)) (at .given .1)) ∙ (read-values .ensures)) (length (a .rhs .now)) (pre .1) (c .before .place2 .given .0 .0) (sym (ap (parsedAs (read-values2 .last .1 .1 .1 .0)) (c .before .place2 .given .1)) ∙ (read-values2 .ensures))
 
 same-length-6 : tie.Need-same-length-6
 same-length-6 c = search needs
@@ -56,7 +72,13 @@ same-length-7 : tie.Need-same-length-7
 same-length-7 c = search needs
 
 returns-4 : tie.Need-returns-4
-returns-4 c = contents-extra (c .before .before .before .before .before .before .before .before .before .before .before .before .before .before .before .before .before .before .args .file .now) (c .before .before .before .before .before .before .before .before .before .before .before .before .before .before .before .before .before .before .args .sizes) (c .before .before .before .before .before .before .before .before .before .before .before .before .before .before .before .before .before .before .args .at) (length (c .before .before .before .before .before .before .before .before .before .before .before .before .before .before .before .before .before .before .args .matrix .now)) (c .before .before .before .before .before .before .before .before .before .at .given .0 .0) (c .before .before .before .before .before .before .before .before .before .before .before .before .before .read-values .last .1 .1 .1 .0) (c .before .before .before .before .before .before .before .before .before .before .before .before .before .before .before .before .before .before .pre .0) (sym (ap (parsedAs (c .before .before .before .before .before .before .before .before .before .before .before .before .before .read-values .last .1 .1 .1 .0)) (c .before .before .before .before .before .before .before .before .before .at .given .1)) ∙ (c .before .before .before .before .before .before .before .before .before .before .before .before .before .read-values .ensures)) (length (c .before .before .before .before .before .before .before .before .before .before .before .before .before .before .before .before .before .before .args .rhs .now)) (c .before .before .before .before .before .before .before .before .before .before .before .before .before .before .before .before .before .before .pre .1) (c .before .before .at2 .given .0 .0) (c .before .before .before .before .before .before .read-values2 .last .1 .1 .1 .0) (sym (ap (parsedAs (c .before .before .before .before .before .before .read-values2 .last .1 .1 .1 .0)) (c .before .before .at2 .given .1)) ∙ (c .before .before .before .before .before .before .read-values2 .ensures)) (c .if1 .left)
+returns-4 c =
+    let a = c .before .before .before .before .before .before .before .before .before .before .before .before .before .before .before .before .before .before .args in
+    let read-values = c .before .before .before .before .before .before .before .before .before .before .before .before .before .read-values in
+    let read-values2 = c .before .before .before .before .before .before .read-values2 in
+    let at = c .before .before .before .before .before .before .before .before .before .at in
+    let pre = c .before .before .before .before .before .before .before .before .before .before .before .before .before .before .before .before .before .before .pre in
+    contents-extra (a .file .now) (a .sizes) (a .at) (length (a .matrix .now)) (at .given .0 .0) (read-values .last .1 .1 .1 .0) (pre .0) (sym (ap (parsedAs (read-values .last .1 .1 .1 .0)) (at .given .1)) ∙ (read-values .ensures)) (length (a .rhs .now)) (pre .1) (c .before .before .at2 .given .0 .0) (read-values2 .last .1 .1 .1 .0) (sym (ap (parsedAs (read-values2 .last .1 .1 .1 .0)) (c .before .before .at2 .given .1)) ∙ (read-values2 .ensures)) (c .if1 .left)
 
 pub read-contents-spec : {M : Type 1} → statement M
 read-contents-spec =

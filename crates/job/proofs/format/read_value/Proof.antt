@@ -14,7 +14,9 @@ present-requires c κs = search needs
 
 returns : tie.Need-returns
 unfolding ofBits
-returns c = value-absent (c .before .before .before .args .file .now) (c .before .before .before .args .at) (presentIn (c .before .before .before .args .file .now) (c .before .before .before .args .mapped) (c .before .before .before .args .k)) (sym (c .before .present .ensures) ∙ not-true (c .before .present .result) (c .if1 .taken))
+returns c =
+    let a = c .before .before .before .args in
+    value-absent (a .file .now) (a .at) (presentIn (a .file .now) (a .mapped) (a .k)) (sym (c .before .present .ensures) ∙ not-true (c .before .present .result) (c .if1 .taken))
 
 read-field-requires : tie.Need-read-field-requires
 read-field-requires c κs = search needs
@@ -29,10 +31,16 @@ enum-known-place : tie.Need-enum-known-place
 enum-known-place c = search needs
 
 returns-2 : tie.Need-returns-2
-returns-2 c = value-read (c .before .before .before .before .before .before .before .before .args .file .now) (c .before .before .before .before .before .before .before .before .args .at) (presentIn (c .before .before .before .before .before .before .before .before .args .file .now) (c .before .before .before .before .before .before .before .before .args .mapped) (c .before .before .before .before .before .before .before .before .args .k)) (c .before .before .bits .given .0 .0) (c .before .before .bits .given .0 .1 .0) (c .float-of .result) (sym (c .before .before .before .before .before .before .present .ensures) ∙ not-false (c .before .before .before .before .before .before .present .result) (c .before .before .before .before .before .if1 .left)) (sym (ap parsedField (c .before .before .bits .given .1)) ∙ (c .before .before .before .before .read-field .ensures)) (c .float-of .ensures)
+returns-2 c =
+    let a = c .before .before .before .before .before .before .before .before .args in
+    let present = c .before .before .before .before .before .before .present in
+    value-read (a .file .now) (a .at) (presentIn (a .file .now) (a .mapped) (a .k)) (c .before .before .bits .given .0 .0) (c .before .before .bits .given .0 .1 .0) (c .float-of .result) (sym (present .ensures) ∙ not-false (present .result) (c .before .before .before .before .before .if1 .left)) (sym (ap parsedField (c .before .before .bits .given .1)) ∙ (c .before .before .before .before .read-field .ensures)) (c .float-of .ensures)
 
 returns-3 : tie.Need-returns-3
-returns-3 c = value-fault (c .before .before .before .before .before .before .before .args .file .now) (c .before .before .before .before .before .before .before .args .at) (presentIn (c .before .before .before .before .before .before .before .args .file .now) (c .before .before .before .before .before .before .before .args .mapped) (c .before .before .before .before .before .before .before .args .k)) (c .before .place .given .0 .0) (sym (c .before .before .before .before .before .present .ensures) ∙ not-false (c .before .before .before .before .before .present .result) (c .before .before .before .before .if1 .left)) (sym (ap parsedField (c .before .place .given .1)) ∙ (c .before .before .before .read-field .ensures))
+returns-3 c =
+    let a = c .before .before .before .before .before .before .before .args in
+    let present = c .before .before .before .before .before .present in
+    value-fault (a .file .now) (a .at) (presentIn (a .file .now) (a .mapped) (a .k)) (c .before .place .given .0 .0) (sym (present .ensures) ∙ not-false (present .result) (c .before .before .before .before .if1 .left)) (sym (ap parsedField (c .before .place .given .1)) ∙ (c .before .before .before .read-field .ensures))
 
 pub read-value-spec : {M : Type 1} → statement M
 read-value-spec =

@@ -29,13 +29,23 @@ same-length : tie.Need-same-length Inv-loop μ-loop
 same-length c = (c .before .before .before .before .before .loop .inv .kept)
 
 returns : tie.Need-returns Inv-loop μ-loop
-returns c = read-fault (c .before .before .before .before .before .before .before .before .args .file .now) (presentIn (c .before .before .before .before .before .before .before .before .args .file .now) (c .before .before .before .before .before .before .before .before .args .mapped)) (c .before .before .before .before .before .before .before .before .args .at) (length (c .before .before .before .before .before .before .before .before .args .out .now)) (c .before .before .before .before .before .loop .next) (c .before .before .before .before .before .loop .k) (c .before .place .given .0 .0) (c .before .before .before .before .before .loop .out) (c .before .before .before .before .before .loop .inv) (c .before .before .before .before .loop-test .taken) (sym (ap parsedValue (c .before .place .given .1)) ∙ (c .before .before .before .read-value .ensures))
+returns c =
+    let a = c .before .before .before .before .before .before .before .before .args in
+    let l = c .before .before .before .before .before .loop in
+    read-fault (a .file .now) (presentIn (a .file .now) (a .mapped)) (a .at) (length (a .out .now)) (l .next) (l .k) (c .before .place .given .0 .0) (l .out) (l .inv) (c .before .before .before .before .loop-test .taken) (sym (ap parsedValue (c .before .place .given .1)) ∙ (c .before .before .before .read-value .ensures))
 
 enum-known-v : tie.Need-enum-known-v Inv-loop μ-loop
 enum-known-v c = search needs
 
 mul-out : tie.Need-mul-out Inv-loop μ-loop
-mul-out c = omega (arith, (c .before .before .before .before .before .loop .inv .kept), (c .before .before .before .before .loop-test .taken), (c .before .before .before .before .before .before .before .before .good))
+mul-out c =
+    let l = c .before .before .before .before .before .loop in
+    omega (
+      arith,
+      (l .inv .kept),
+      (c .before .before .before .before .loop-test .taken),
+      (c .before .before .before .before .before .before .before .before .good),
+    )
 
 slice-write-out : tie.Need-slice-write-out Inv-loop μ-loop
 slice-write-out c = omega arith
@@ -47,13 +57,18 @@ loop-less : tie.Need-loop-less Inv-loop μ-loop
 loop-less c = simp length-set (omega arith)
 
 loop-again : tie.Need-loop-again Inv-loop μ-loop
-loop-again c = read-turn (c .before .before .before .before .before .before .before .before .args .file .now) (presentIn (c .before .before .before .before .before .before .before .before .args .file .now) (c .before .before .before .before .before .before .before .before .args .mapped)) (c .before .before .before .before .before .before .before .before .args .at) (length (c .before .before .before .before .before .before .before .before .args .out .now)) (c .before .before .before .before .before .loop .next) (c .before .before .before .before .before .loop .k) (c .before .v .given .0 .1 .0) (c .before .before .before .before .before .loop .out) (c .before .v .given .0 .0) (c .before .before .before .before .before .loop .inv) (c .before .before .before .before .loop-test .taken) (sym (ap parsedValue (c .before .v .given .1)) ∙ (c .before .before .before .read-value .ensures))
+loop-again c =
+    let a = c .before .before .before .before .before .before .before .before .args in
+    let l = c .before .before .before .before .before .loop in
+    read-turn (a .file .now) (presentIn (a .file .now) (a .mapped)) (a .at) (length (a .out .now)) (l .next) (l .k) (c .before .v .given .0 .1 .0) (l .out) (c .before .v .given .0 .0) (l .inv) (c .before .before .before .before .loop-test .taken) (sym (ap parsedValue (c .before .v .given .1)) ∙ (c .before .before .before .read-value .ensures))
 
 same-length-2 : tie.Need-same-length-2 Inv-loop μ-loop
 same-length-2 c = (c .before .loop .inv .kept)
 
 returns-2 : tie.Need-returns-2 Inv-loop μ-loop
-returns-2 c = read-all (c .before .before .before .before .args .file .now) (presentIn (c .before .before .before .before .args .file .now) (c .before .before .before .before .args .mapped)) (c .before .before .before .before .args .at) (length (c .before .before .before .before .args .out .now)) (c .before .loop .next) (c .before .loop .k) (c .before .loop .out) (c .before .loop .inv) (c .loop-test .left)
+returns-2 c =
+    let a = c .before .before .before .before .args in
+    read-all (a .file .now) (presentIn (a .file .now) (a .mapped)) (a .at) (length (a .out .now)) (c .before .loop .next) (c .before .loop .k) (c .before .loop .out) (c .before .loop .inv) (c .loop-test .left)
 
 pub read-values-spec : {M : Type 1} → statement M
 read-values-spec =

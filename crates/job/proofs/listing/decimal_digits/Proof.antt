@@ -29,7 +29,9 @@ loop-less : tie.Need-loop-less Inv-loop μ-loop
 loop-less c = omega (arith, c .before .loop-test .taken)
 
 loop-again : tie.Need-loop-again Inv-loop μ-loop
-loop-again c = digits-turn (c .before .before .before .before .args .n) (c .before .before .loop .left) (c .before .before .loop .i) (c .before .before .loop .buffer) (c .before .before .loop .inv) (c .digit .result) (c .before .loop-test .taken) (c .digit .ensures)
+loop-again c =
+    let a = c .before .before .before .before .args in
+    digits-turn (a .n) (c .before .before .loop .left) (c .before .before .loop .i) (c .before .before .loop .buffer) (c .before .before .loop .inv) (c .digit .result) (c .before .loop-test .taken) (c .digit .ensures)
 
 sub-i-2 : tie.Need-sub-i-2 Inv-loop μ-loop
 sub-i-2 c = omega (arith, c .before .loop .inv .some)
@@ -41,10 +43,19 @@ slice-write-buffer-2 : tie.Need-slice-write-buffer-2 Inv-loop μ-loop
 slice-write-buffer-2 c = omega (arith, c .before .before .loop .inv .some, c .before .before .loop .inv .size, c .before .before .loop .inv .within)
 
 same-length : tie.Need-same-length Inv-loop μ-loop
-same-length c = length-set (c .before .before .loop .buffer) ((c .before .before .loop .i) - 1) (c .digit2 .result) ∙ (c .before .before .loop .inv .size) ∙ sym (c .before .before .before .before .pre)
+same-length c =
+    let pre = c .before .before .before .before .pre in
+    length-set (c .before .before .loop .buffer) ((c .before .before .loop .i) - 1) (c .digit2 .result) ∙ (c .before .before .loop .inv .size) ∙ sym (pre)
 
 returns : tie.Need-returns Inv-loop μ-loop
-returns c = (omega (arith, c .before .before .loop .inv .within), digits-end (c .before .before .before .before .args .n) (c .before .before .loop .left) (c .before .before .loop .i) (c .before .before .loop .buffer) (c .before .before .loop .inv) (c .digit2 .result) (c .before .loop-test .left) (c .digit2 .ensures))
+returns c =
+    let a = c .before .before .before .before .args in (
+      omega (
+        arith,
+        c .before .before .loop .inv .within,
+      ),
+      digits-end (a .n) (c .before .before .loop .left) (c .before .before .loop .i) (c .before .before .loop .buffer) (c .before .before .loop .inv) (c .digit2 .result) (c .before .loop-test .left) (c .digit2 .ensures),
+    )
 
 pub decimal-digits-spec : {M : Type 1} → statement M
 decimal-digits-spec =

@@ -9,22 +9,68 @@ slice-aggregate-put-text : tie.Need-slice-aggregate-put-text
 slice-aggregate-put-text c = search needs
 
 put-text-requires : tie.Need-put-text-requires
-put-text-requires c κs = omega (arith, (c .before .before .before .pre), length-jobLine (c .before .before .before .args .n) (c .before .before .before .args .b) (c .before .before .before .args .m))
+put-text-requires c κs =
+    let a = c .before .before .before .args in
+    let pre = c .before .before .before .pre in
+    omega (arith, (pre), length-jobLine (a .n) (a .b) (a .m))
 
 put-number-requires : tie.Need-put-number-requires
-put-number-requires c κs = omega (arith, (c .before .before .before .before .before .before .before .pre), length-jobLine (c .before .before .before .before .before .before .before .args .n) (c .before .before .before .before .before .before .before .args .b) (c .before .before .before .before .before .before .before .args .m), (c .before .before .before .put-text .ensures .next), (c .before .before .before .put-text .kept .0))
+put-number-requires c κs =
+    let a = c .before .before .before .before .before .before .before .args in
+    let put-text = c .before .before .before .put-text in
+    let pre = c .before .before .before .before .before .before .before .pre in
+    omega (arith, (pre), length-jobLine (a .n) (a .b) (a .m), (put-text .ensures .next), (put-text .kept .0))
 
 put-number-requires-2 : tie.Need-put-number-requires-2
-put-number-requires-2 c κs = omega (arith, (c .before .before .before .before .before .before .before .before .before .before .before .pre), length-jobLine (c .before .before .before .before .before .before .before .before .before .before .before .args .n) (c .before .before .before .before .before .before .before .before .before .before .before .args .b) (c .before .before .before .before .before .before .before .before .before .before .before .args .m), (c .before .before .before .before .before .before .before .put-text .ensures .next), (c .before .before .before .before .before .before .before .put-text .kept .0), (c .before .before .before .put-number .ensures .next), (c .before .before .before .put-number .kept .0), length-number (c .before .before .before .before .before .before .before .before .before .before .before .args .n) 32)
+put-number-requires-2 c κs =
+    let a = c .before .before .before .before .before .before .before .before .before .before .before .args in
+    let put-text = c .before .before .before .before .before .before .before .put-text in
+    let put-number = c .before .before .before .put-number in
+    let pre = c .before .before .before .before .before .before .before .before .before .before .before .pre in
+    omega (
+      arith,
+      (pre),
+      length-jobLine (a .n) (a .b) (a .m),
+      (put-text .ensures .next),
+      (put-text .kept .0),
+      (put-number .ensures .next),
+      (put-number .kept .0),
+      length-number (a .n) 32,
+    )
 
 put-number-requires-3 : tie.Need-put-number-requires-3
-put-number-requires-3 c κs = omega (arith, (c .before .before .before .before .before .before .before .before .before .before .before .before .before .before .before .pre), length-jobLine (c .before .before .before .before .before .before .before .before .before .before .before .before .before .before .before .args .n) (c .before .before .before .before .before .before .before .before .before .before .before .before .before .before .before .args .b) (c .before .before .before .before .before .before .before .before .before .before .before .before .before .before .before .args .m), (c .before .before .before .before .before .before .before .before .before .before .before .put-text .ensures .next), (c .before .before .before .before .before .before .before .before .before .before .before .put-text .kept .0), (c .before .before .before .before .before .before .before .put-number .ensures .next), (c .before .before .before .before .before .before .before .put-number .kept .0), (c .before .before .before .put-number2 .ensures .next), (c .before .before .before .put-number2 .kept .0), length-number (c .before .before .before .before .before .before .before .before .before .before .before .before .before .before .before .args .n) 32, length-number (c .before .before .before .before .before .before .before .before .before .before .before .before .before .before .before .args .b) 32)
+put-number-requires-3 c κs =
+    let a = c .before .before .before .before .before .before .before .before .before .before .before .before .before .before .before .args in
+    let put-text = c .before .before .before .before .before .before .before .before .before .before .before .put-text in
+    let put-number = c .before .before .before .before .before .before .before .put-number in
+    let put-number2 = c .before .before .before .put-number2 in
+    let pre = c .before .before .before .before .before .before .before .before .before .before .before .before .before .before .before .pre in
+    omega (
+      arith,
+      (pre),
+      length-jobLine (a .n) (a .b) (a .m),
+      (put-text .ensures .next),
+      (put-text .kept .0),
+      (put-number .ensures .next),
+      (put-number .kept .0),
+      (put-number2 .ensures .next),
+      (put-number2 .kept .0),
+      length-number (a .n) 32,
+      length-number (a .b) 32,
+    )
 
 same-length : tie.Need-same-length
 same-length c = search needs
 
 returns : tie.Need-returns
-returns c = as-text (job-text (c .before .before .before .before .before .before .before .before .before .before .before .before .before .before .before .before .before .before .args .n) (c .before .before .before .before .before .before .before .before .before .before .before .before .before .before .before .before .before .before .args .b) (c .before .before .before .before .before .before .before .before .before .before .before .before .before .before .before .before .before .before .args .m)) (then (then (then (c .before .before .before .before .before .before .before .before .before .before .before .before .before .before .put-text .ensures) (c .before .before .before .before .before .before .before .before .before .before .put-number .ensures) (omega (arith, (c .before .before .before .before .before .before .before .before .before .before .before .before .before .before .before .before .before .before .pre), length-jobLine (c .before .before .before .before .before .before .before .before .before .before .before .before .before .before .before .before .before .before .args .n) (c .before .before .before .before .before .before .before .before .before .before .before .before .before .before .before .before .before .before .args .b) (c .before .before .before .before .before .before .before .before .before .before .before .before .before .before .before .before .before .before .args .m)))) (c .before .before .before .before .before .before .put-number2 .ensures) (job-fits-order (c .before .before .before .before .before .before .before .before .before .before .before .before .before .before .before .before .before .before .args .at) (c .before .before .before .before .before .before .before .before .before .before .before .before .before .before .before .before .before .before .args .n) (c .before .before .before .before .before .before .before .before .before .before .before .before .before .before .before .before .before .before .args .b) (c .before .before .before .before .before .before .before .before .before .before .before .before .before .before .before .before .before .before .args .m) (c .before .before .before .before .before .before .before .before .before .before .before .before .before .before .before .before .before .before .args .out .now) (c .before .before .before .before .before .before .before .before .before .before .before .before .before .before .before .before .before .before .pre))) (c .before .before .put-number3 .ensures) (job-fits-block (c .before .before .before .before .before .before .before .before .before .before .before .before .before .before .before .before .before .before .args .at) (c .before .before .before .before .before .before .before .before .before .before .before .before .before .before .before .before .before .before .args .n) (c .before .before .before .before .before .before .before .before .before .before .before .before .before .before .before .before .before .before .args .b) (c .before .before .before .before .before .before .before .before .before .before .before .before .before .before .before .before .before .before .args .m) (c .before .before .before .before .before .before .before .before .before .before .before .before .before .before .before .before .before .before .args .out .now) (c .before .before .before .before .before .before .before .before .before .before .before .before .before .before .before .before .before .before .pre)))
+returns c =
+    let a = c .before .before .before .before .before .before .before .before .before .before .before .before .before .before .before .before .before .before .args in
+    let pre = c .before .before .before .before .before .before .before .before .before .before .before .before .before .before .before .before .before .before .pre in
+    as-text (job-text (a .n) (a .b) (a .m)) (then (then (then (c .before .before .before .before .before .before .before .before .before .before .before .before .before .before .put-text .ensures) (c .before .before .before .before .before .before .before .before .before .before .put-number .ensures) (omega (
+      arith,
+      (pre),
+      length-jobLine (a .n) (a .b) (a .m),
+    ))) (c .before .before .before .before .before .before .put-number2 .ensures) (job-fits-order (a .at) (a .n) (a .b) (a .m) (a .out .now) (pre))) (c .before .before .put-number3 .ensures) (job-fits-block (a .at) (a .n) (a .b) (a .m) (a .out .now) (pre)))
 
 pub put-job-spec : {M : Type 1} → statement M
 put-job-spec =

@@ -6,28 +6,74 @@ use Rattle.job.proofs.listing.put_result.Statement.{statement}
 use Rattle.job.proofs.listing.put_result.Tie as tie
 
 put-job-requires : tie.Need-put-job-requires
-put-job-requires c κs = omega (arith, job-fits (c .before .before .before .before .args .matrix .now) (c .before .before .before .before .args .rhs .now) (c .before .before .before .before .args .sizes) (c .before .before .before .before .args .result) (c .before .before .before .before .args .out .now) (c .before .before .before .before .pre))
+put-job-requires c κs =
+    let a = c .before .before .before .before .args in
+    let pre = c .before .before .before .before .pre in
+    omega (arith, job-fits (a .matrix .now) (a .rhs .now) (a .sizes) (a .result) (a .out .now) (pre))
 
 put-end-requires : tie.Need-put-end-requires
-put-end-requires c κs = omega (arith, refused-fits (c .before .before .before .before .before .before .before .before .before .before .args .matrix .now) (c .before .before .before .before .before .before .before .before .before .before .args .rhs .now) (c .before .before .before .before .before .before .before .before .before .before .args .sizes) (c .before .before .before .before .before .before .before .before .before .before .args .result) (c .before .before .before .before .before .before .before .before .before .before .args .out .now) (c .before .before .before .before .before .before .before .before .before .before .pre) (c .before .if1 .taken), (c .before .before .before .before .before .put-job .ensures .next), (c .before .before .before .before .before .put-job .kept .0))
+put-end-requires c κs =
+    let a = c .before .before .before .before .before .before .before .before .before .before .args in
+    let put-job = c .before .before .before .before .before .put-job in
+    let pre = c .before .before .before .before .before .before .before .before .before .before .pre in
+    omega (
+      arith,
+      refused-fits (a .matrix .now) (a .rhs .now) (a .sizes) (a .result) (a .out .now) (pre) (c .before .if1 .taken),
+      (put-job .ensures .next),
+      (put-job .kept .0),
+    )
 
 same-length : tie.Need-same-length
 same-length c = search needs
 
 returns : tie.Need-returns
-returns c = as-text (refused-lines (c .before .before .before .before .before .before .before .before .before .before .before .before .before .args .matrix .now) (c .before .before .before .before .before .before .before .before .before .before .before .before .before .args .rhs .now) (c .before .before .before .before .before .before .before .before .before .before .before .before .before .args .sizes) (c .before .before .before .before .before .before .before .before .before .before .before .before .before .args .result) (c .before .before .before .before .if1 .taken)) (then (c .before .before .before .before .before .before .before .before .put-job .ensures) (c .before .before .put-end .ensures) (omega (arith, job-fits (c .before .before .before .before .before .before .before .before .before .before .before .before .before .args .matrix .now) (c .before .before .before .before .before .before .before .before .before .before .before .before .before .args .rhs .now) (c .before .before .before .before .before .before .before .before .before .before .before .before .before .args .sizes) (c .before .before .before .before .before .before .before .before .before .before .before .before .before .args .result) (c .before .before .before .before .before .before .before .before .before .before .before .before .before .args .out .now) (c .before .before .before .before .before .before .before .before .before .before .before .before .before .pre))))
+returns c =
+    let a = c .before .before .before .before .before .before .before .before .before .before .before .before .before .args in
+    let pre = c .before .before .before .before .before .before .before .before .before .before .before .before .before .pre in
+    as-text (refused-lines (a .matrix .now) (a .rhs .now) (a .sizes) (a .result) (c .before .before .before .before .if1 .taken)) (then (c .before .before .before .before .before .before .before .before .put-job .ensures) (c .before .before .put-end .ensures) (omega (
+      arith,
+      job-fits (a .matrix .now) (a .rhs .now) (a .sizes) (a .result) (a .out .now) (pre),
+    )))
 
 put-solution-requires : tie.Need-put-solution-requires
-put-solution-requires c κs = omega (arith, accepted-fits (c .before .before .before .before .before .before .before .before .before .before .args .matrix .now) (c .before .before .before .before .before .before .before .before .before .before .args .rhs .now) (c .before .before .before .before .before .before .before .before .before .before .args .sizes) (c .before .before .before .before .before .before .before .before .before .before .args .result) (c .before .before .before .before .before .before .before .before .before .before .args .out .now) (c .before .before .before .before .before .before .before .before .before .before .pre) (c .before .if1 .left), (c .before .before .before .before .before .put-job .ensures .next), (c .before .before .before .before .before .put-job .kept .0))
+put-solution-requires c κs =
+    let a = c .before .before .before .before .before .before .before .before .before .before .args in
+    let put-job = c .before .before .before .before .before .put-job in
+    let pre = c .before .before .before .before .before .before .before .before .before .before .pre in
+    omega (
+      arith,
+      accepted-fits (a .matrix .now) (a .rhs .now) (a .sizes) (a .result) (a .out .now) (pre) (c .before .if1 .left),
+      (put-job .ensures .next),
+      (put-job .kept .0),
+    )
 
 put-end-requires-2 : tie.Need-put-end-requires-2
-put-end-requires-2 c κs = omega (arith, accepted-fits (c .before .before .before .before .before .before .before .before .before .before .before .before .before .before .args .matrix .now) (c .before .before .before .before .before .before .before .before .before .before .before .before .before .before .args .rhs .now) (c .before .before .before .before .before .before .before .before .before .before .before .before .before .before .args .sizes) (c .before .before .before .before .before .before .before .before .before .before .before .before .before .before .args .result) (c .before .before .before .before .before .before .before .before .before .before .before .before .before .before .args .out .now) (c .before .before .before .before .before .before .before .before .before .before .before .before .before .before .pre) (c .before .before .before .before .before .if1 .left), (c .before .before .before .before .before .before .before .before .before .put-job .ensures .next), (c .before .before .before .before .before .before .before .before .before .put-job .kept .0), (c .before .before .before .put-solution .ensures .next), (c .before .before .before .put-solution .kept .0))
+put-end-requires-2 c κs =
+    let a = c .before .before .before .before .before .before .before .before .before .before .before .before .before .before .args in
+    let put-job = c .before .before .before .before .before .before .before .before .before .put-job in
+    let put-solution = c .before .before .before .put-solution in
+    let pre = c .before .before .before .before .before .before .before .before .before .before .before .before .before .before .pre in
+    omega (
+      arith,
+      accepted-fits (a .matrix .now) (a .rhs .now) (a .sizes) (a .result) (a .out .now) (pre) (c .before .before .before .before .before .if1 .left),
+      (put-job .ensures .next),
+      (put-job .kept .0),
+      (put-solution .ensures .next),
+      (put-solution .kept .0),
+    )
 
 same-length-2 : tie.Need-same-length-2
 same-length-2 c = search needs
 
 returns-2 : tie.Need-returns-2
-returns-2 c = as-text (accepted-lines (c .before .before .before .before .before .before .before .before .before .before .before .before .before .before .before .before .before .args .matrix .now) (c .before .before .before .before .before .before .before .before .before .before .before .before .before .before .before .before .before .args .rhs .now) (c .before .before .before .before .before .before .before .before .before .before .before .before .before .before .before .before .before .args .sizes) (c .before .before .before .before .before .before .before .before .before .before .before .before .before .before .before .before .before .args .result) (c .before .before .before .before .before .before .before .before .if1 .left)) (then (then (c .before .before .before .before .before .before .before .before .before .before .before .before .put-job .ensures) (c .before .before .before .before .before .before .put-solution .ensures) (omega (arith, job-fits (c .before .before .before .before .before .before .before .before .before .before .before .before .before .before .before .before .before .args .matrix .now) (c .before .before .before .before .before .before .before .before .before .before .before .before .before .before .before .before .before .args .rhs .now) (c .before .before .before .before .before .before .before .before .before .before .before .before .before .before .before .before .before .args .sizes) (c .before .before .before .before .before .before .before .before .before .before .before .before .before .before .before .before .before .args .result) (c .before .before .before .before .before .before .before .before .before .before .before .before .before .before .before .before .before .args .out .now) (c .before .before .before .before .before .before .before .before .before .before .before .before .before .before .before .before .before .pre)))) (c .before .before .put-end2 .ensures) (two-fit (c .before .before .before .before .before .before .before .before .before .before .before .before .before .before .before .before .before .args .matrix .now) (c .before .before .before .before .before .before .before .before .before .before .before .before .before .before .before .before .before .args .rhs .now) (c .before .before .before .before .before .before .before .before .before .before .before .before .before .before .before .before .before .args .sizes) (c .before .before .before .before .before .before .before .before .before .before .before .before .before .before .before .before .before .args .result) (c .before .before .before .before .before .before .before .before .before .before .before .before .before .before .before .before .before .args .out .now) (c .before .before .before .before .before .before .before .before .before .before .before .before .before .before .before .before .before .pre) (c .before .before .before .before .before .before .before .before .if1 .left)))
+returns-2 c =
+    let a = c .before .before .before .before .before .before .before .before .before .before .before .before .before .before .before .before .before .args in
+    let if1 = c .before .before .before .before .before .before .before .before .if1 in
+    let pre = c .before .before .before .before .before .before .before .before .before .before .before .before .before .before .before .before .before .pre in
+    as-text (accepted-lines (a .matrix .now) (a .rhs .now) (a .sizes) (a .result) (if1 .left)) (then (then (c .before .before .before .before .before .before .before .before .before .before .before .before .put-job .ensures) (c .before .before .before .before .before .before .put-solution .ensures) (omega (
+      arith,
+      job-fits (a .matrix .now) (a .rhs .now) (a .sizes) (a .result) (a .out .now) (pre),
+    ))) (c .before .before .put-end2 .ensures) (two-fit (a .matrix .now) (a .rhs .now) (a .sizes) (a .result) (a .out .now) (pre) (if1 .left)))
 
 pub put-result-spec : {M : Type 1} → statement M
 put-result-spec =

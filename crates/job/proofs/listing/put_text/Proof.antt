@@ -24,7 +24,14 @@ add-out : tie.Need-add-out Inv-loop μ-loop
 add-out c = omega (arith, (c .before .before .before .pre))
 
 slice-write-out : tie.Need-slice-write-out Inv-loop μ-loop
-slice-write-out c = omega (arith, (c .before .before .before .pre), length-copied (c .before .before .before .args .out .now) (c .before .before .before .args .at) (c .before .before .before .args .text .now) (c .before .before .before .pre) (c .before .before .loop .out) (c .before .before .loop .i) (c .before .before .loop .inv .1) (c .before .before .loop .inv .0))
+slice-write-out c =
+    let a = c .before .before .before .args in
+    let pre = c .before .before .before .pre in
+    omega (
+      arith,
+      (pre),
+      length-copied (a .out .now) (a .at) (a .text .now) (pre) (c .before .before .loop .out) (c .before .before .loop .i) (c .before .before .loop .inv .1) (c .before .before .loop .inv .0),
+    )
 
 add-i : tie.Need-add-i Inv-loop μ-loop
 add-i c = omega arith
@@ -33,7 +40,10 @@ loop-less : tie.Need-loop-less Inv-loop μ-loop
 loop-less c = omega arith
 
 loop-again : tie.Need-loop-again Inv-loop μ-loop
-loop-again c = (omega arith, copy-turn (c .before .before .before .args .out .now) (c .before .before .before .args .at) (c .before .before .before .args .text .now) (c .before .before .before .pre) (c .before .before .loop .out) (c .before .before .loop .i) (c .before .before .loop .inv .1) (c .before .loop-test .taken))
+loop-again c =
+    let a = c .before .before .before .args in
+    let pre = c .before .before .before .pre in
+    (omega arith, copy-turn (a .out .now) (a .at) (a .text .now) (pre) (c .before .before .loop .out) (c .before .before .loop .i) (c .before .before .loop .inv .1) (c .before .loop-test .taken))
 
 add-result : tie.Need-add-result Inv-loop μ-loop
 add-result c = omega (arith, (c .before .before .pre))

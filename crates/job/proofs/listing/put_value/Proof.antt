@@ -13,14 +13,35 @@ put-hexadecimal-requires : tie.Need-put-hexadecimal-requires
 put-hexadecimal-requires c κs = search needs
 
 put-byte-requires : tie.Need-put-byte-requires
-put-byte-requires c κs = omega (arith, (c .before .before .before .before .before .before .before .before .before .before .before .pre .0), (c .before .before .before .before .before .before .before .before .before .before .before .pre .1), (c .before .before .before .before .before .before .before .put-text .ensures .next), (c .before .before .before .before .before .before .before .put-text .kept .0), (c .before .before .before .put-hexadecimal .ensures .next), (c .before .before .before .put-hexadecimal .kept .0), length-hexadecimal (c .before .before .before .before .before .before .before .before .before .before .before .args .v))
+put-byte-requires c κs =
+    let pre = c .before .before .before .before .before .before .before .before .before .before .before .pre in
+    let put-text = c .before .before .before .before .before .before .before .put-text in
+    let put-hexadecimal = c .before .before .before .put-hexadecimal in
+    let a = c .before .before .before .before .before .before .before .before .before .before .before .args in
+    omega (
+      arith,
+      (pre .0),
+      (pre .1),
+      (put-text .ensures .next),
+      (put-text .kept .0),
+      (put-hexadecimal .ensures .next),
+      (put-hexadecimal .kept .0),
+      length-hexadecimal (a .v),
+    )
 
 same-length : tie.Need-same-length
 same-length c = search needs
 
 returns : tie.Need-returns
 unfolding valueLine
-returns c = then (then (c .before .before .before .before .before .before .before .before .before .before .put-text .ensures) (c .before .before .before .before .before .before .put-hexadecimal .ensures) (omega (arith, (c .before .before .before .before .before .before .before .before .before .before .before .before .before .before .pre .0), (c .before .before .before .before .before .before .before .before .before .before .before .before .before .before .pre .1)))) (c .before .before .put-byte .ensures) (length-join (c .before .before .before .before .before .before .before .before .before .before .before .before .before .before .args .at) (c .before .before .before .before .before .before .before .before .before .before .before .before .before .before .args .head .now) (c .before .before .before .before .before .before .before .before .before .before .before .before .before .before .args .v) (c .before .before .before .before .before .before .before .before .before .before .before .before .before .before .args .out .now) (c .before .before .before .before .before .before .before .before .before .before .before .before .before .before .pre .0) (c .before .before .before .before .before .before .before .before .before .before .before .before .before .before .pre .1))
+returns c =
+    let pre = c .before .before .before .before .before .before .before .before .before .before .before .before .before .before .pre in
+    let a = c .before .before .before .before .before .before .before .before .before .before .before .before .before .before .args in
+    then (then (c .before .before .before .before .before .before .before .before .before .before .put-text .ensures) (c .before .before .before .before .before .before .put-hexadecimal .ensures) (omega (
+      arith,
+      (pre .0),
+      (pre .1),
+    ))) (c .before .before .put-byte .ensures) (length-join (a .at) (a .head .now) (a .v) (a .out .now) (pre .0) (pre .1))
 
 pub put-value-spec : {M : Type 1} → statement M
 put-value-spec =

@@ -15,7 +15,9 @@ abbrev μ-loop : tie.MeasureT-loop
 μ-loop out₀ at head values next₀ k₀ out next k = length values - k
 
 loop-holds : tie.Need-loop-holds Inv-loop μ-loop
-loop-holds c = (omega arith, refl, lines-none (c .before .before .before .args .head .now) (c .before .before .before .args .values .now) (c .before .before .before .args .at) (c .before .before .before .args .out .now))
+loop-holds c =
+    let a = c .before .before .before .args in
+    (omega arith, refl, lines-none (a .head .now) (a .values .now) (a .at) (a .out .now))
 
 mul-put-value : tie.Need-mul-put-value Inv-loop μ-loop
 mul-put-value c = omega (arith, (c .before .before .before .before .before .before .good))
@@ -24,7 +26,11 @@ shared-slice-read-put-value : tie.Need-shared-slice-read-put-value Inv-loop μ-l
 shared-slice-read-put-value c = omega arith
 
 put-value-requires : tie.Need-put-value-requires Inv-loop μ-loop
-put-value-requires c κs = ((c .before .before .before .before .before .before .before .pre .0), omega (arith, (c .before .before .before .before .before .before .before .pre .1), (c .before .before .before .loop .inv .2 .next), (c .before .before .before .loop .inv .1), length-lines (c .before .before .before .before .before .before .before .args .head .now) (c .before .before .before .before .before .before .before .args .values .now) (c .before .before .before .before .before .before .before .pre .0) (c .before .before .before .loop .k)))
+put-value-requires c κs =
+    let pre = c .before .before .before .before .before .before .before .pre in
+    let l = c .before .before .before .loop in
+    let a = c .before .before .before .before .before .before .before .args in
+    ((pre .0), omega (arith, (pre .1), (l .inv .2 .next), (l .inv .1), length-lines (a .head .now) (a .values .now) (pre .0) (l .k)))
 
 add-k : tie.Need-add-k Inv-loop μ-loop
 add-k c = omega arith
@@ -33,13 +39,19 @@ loop-less : tie.Need-loop-less Inv-loop μ-loop
 loop-less c = omega arith
 
 loop-again : tie.Need-loop-again Inv-loop μ-loop
-loop-again c = (omega arith, (c .before .before .put-value .kept .0) ∙ (c .before .before .before .before .before .before .loop .inv .1), lines-turn (c .before .before .before .before .before .before .before .before .before .before .args .head .now) (c .before .before .before .before .before .before .before .before .before .before .args .values .now) (c .before .before .before .before .before .before .before .before .before .before .args .at) (c .before .before .before .before .before .before .loop .next) (c .before .before .put-value .result) (c .before .before .before .before .before .before .loop .k) (c .before .before .before .before .before .before .before .before .before .before .args .out .now) (c .before .before .before .before .before .before .loop .out) (c .before .before .put-value .last .0) (c .before .before .before .before .before .before .before .before .before .before .pre .0) (c .before .before .before .before .before .before .before .before .before .before .pre .1) (c .before .before .before .before .before .loop-test .taken) (c .before .before .before .before .before .before .loop .inv .2) (c .before .before .put-value .ensures))
+loop-again c =
+    let l = c .before .before .before .before .before .before .loop in
+    let a = c .before .before .before .before .before .before .before .before .before .before .args in
+    let pre = c .before .before .before .before .before .before .before .before .before .before .pre in
+    (omega arith, (c .before .before .put-value .kept .0) ∙ (l .inv .1), lines-turn (a .head .now) (a .values .now) (a .at) (l .next) (c .before .before .put-value .result) (l .k) (a .out .now) (l .out) (c .before .before .put-value .last .0) (pre .0) (pre .1) (c .before .before .before .before .before .loop-test .taken) (l .inv .2) (c .before .before .put-value .ensures))
 
 same-length : tie.Need-same-length Inv-loop μ-loop
 same-length c = (c .before .loop .inv .1)
 
 returns : tie.Need-returns Inv-loop μ-loop
-returns c = lines-all (c .before .before .before .before .before .args .head .now) (c .before .before .before .before .before .args .values .now) (c .before .before .before .before .before .args .at) (c .before .loop .next) (c .before .loop .k) (c .before .before .before .before .before .args .out .now) (c .before .loop .out) (c .before .loop .inv .0) (c .loop-test .left) (c .before .loop .inv .2)
+returns c =
+    let a = c .before .before .before .before .before .args in
+    lines-all (a .head .now) (a .values .now) (a .at) (c .before .loop .next) (c .before .loop .k) (a .out .now) (c .before .loop .out) (c .before .loop .inv .0) (c .loop-test .left) (c .before .loop .inv .2)
 
 pub put-values-spec : {M : Type 1} → statement M
 put-values-spec =

@@ -14,7 +14,9 @@ sub-if2 : tie.Need-sub-if2
 sub-if2 c = search needs
 
 returns-2 : tie.Need-returns-2
-returns-2 c = sym (field-short (now (c .before .before .before .args .file)) (c .before .before .before .args .at) (c .before .before .before .args .width) (omega arith))
+returns-2 c =
+    let a = c .before .before .before .args in
+    sym (field-short (now (a .file)) (a .at) (a .width) (omega arith))
 
 add-next : tie.Need-add-next
 add-next c = search needs
@@ -32,7 +34,9 @@ little-endian-requires : tie.Need-little-endian-requires
 little-endian-requires c κs = search needs
 
 returns-3 : tie.Need-returns-3
-returns-3 c = field-read (now (c .before .before .before .before .before .args .file)) (c .before .before .before .before .before .args .at) (c .before .before .before .before .before .args .width) (c .little-endian .result) (omega arith) (c .little-endian .ensures)
+returns-3 c =
+    let a = c .before .before .before .before .before .args in
+    field-read (now (a .file)) (a .at) (a .width) (c .little-endian .result) (omega arith) (c .little-endian .ensures)
 
 pub field-at-spec : {M : Type 1} → statement M
 field-at-spec =

@@ -19,7 +19,13 @@ sub-i : tie.Need-sub-i Inv-loop μ-loop
 sub-i c = search needs
 
 mul-value : tie.Need-mul-value Inv-loop μ-loop
-mul-value c = omega (arith, turn-fits (c .before .before .before .args .part .now) (c .before .loop .value) (c .before .loop .i) (c .before .before .before .pre) (c .loop-test .taken) (c .before .loop .inv) 0 (omega arith))
+mul-value c =
+    let a = c .before .before .before .args in
+    let pre = c .before .before .before .pre in
+    omega (
+      arith,
+      turn-fits (a .part .now) (c .before .loop .value) (c .before .loop .i) (pre) (c .loop-test .taken) (c .before .loop .inv) 0 (omega arith),
+    )
 
 shared-slice-read-wide : tie.Need-shared-slice-read-wide Inv-loop μ-loop
 shared-slice-read-wide c = omega arith
@@ -28,16 +34,36 @@ wide-requires : tie.Need-wide-requires Inv-loop μ-loop
 wide-requires c κs = search needs
 
 add-value : tie.Need-add-value Inv-loop μ-loop
-add-value c = record { fits = turn-fits (c .before .before .before .before .before .args .part .now) (c .before .before .before .loop .value) (c .before .before .before .loop .i) (c .before .before .before .before .before .pre) (c .before .before .loop-test .taken) (c .before .before .before .loop .inv) (c .wide .result) (omega (arith, c .wide .ensures, c .before .shared-slice-known2 .given (c .before .before .before .loop .i - 1))) }
+add-value c =
+    let l = c .before .before .before .loop in
+    let a = c .before .before .before .before .before .args in
+    let pre = c .before .before .before .before .before .pre in
+    record {
+      fits = turn-fits (a .part .now) (l .value) (l .i) (pre) (c .before .before .loop-test .taken) (l .inv) (c .wide .result) (omega (
+        arith,
+        c .wide .ensures,
+        c .before .shared-slice-known2 .given (l .i - 1),
+      ));
+    }
 
 loop-less : tie.Need-loop-less Inv-loop μ-loop
 loop-less c = omega arith
 
 loop-again : tie.Need-loop-again Inv-loop μ-loop
-loop-again c = turn (c .before .before .before .before .before .args .part .now) (c .before .before .before .loop .value) (c .before .before .before .loop .i) (c .before .before .before .before .before .pre) (c .before .before .loop-test .taken) (c .before .before .before .loop .inv) (c .wide .result) (omega (arith, c .wide .ensures, c .before .shared-slice-known2 .given (c .before .before .before .loop .i - 1))) (c .wide .ensures)
+loop-again c =
+    let l = c .before .before .before .loop in
+    let a = c .before .before .before .before .before .args in
+    let pre = c .before .before .before .before .before .pre in
+    turn (a .part .now) (l .value) (l .i) (pre) (c .before .before .loop-test .taken) (l .inv) (c .wide .result) (omega (
+      arith,
+      c .wide .ensures,
+      c .before .shared-slice-known2 .given (l .i - 1),
+    )) (c .wide .ensures)
 
 returns : tie.Need-returns Inv-loop μ-loop
-returns c = read-all (c .before .before .before .args .part .now) (c .before .loop .value) (c .before .loop .i) (c .loop-test .left) (c .before .loop .inv)
+returns c =
+    let a = c .before .before .before .args in
+    read-all (a .part .now) (c .before .loop .value) (c .before .loop .i) (c .loop-test .left) (c .before .loop .inv)
 
 pub little-endian-spec : {M : Type 1} → statement M
 little-endian-spec =
