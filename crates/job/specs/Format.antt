@@ -86,7 +86,7 @@ abbrev pub parsedAs : {A : Type 0} → A → Step → Parsed A
 parsedAs a (Step.Next next) = found a next
 parsedAs a (Step.Fault place) = fault place
 
--- values of which all are present, or those whose bit stands in the map
+-- which values are present: those whose bit stands in the map, or all
 abbrev pub presentIn : List ℕ → Bool → ℕ → Bool
 presentIn file true = mapBit file
 presentIn file false = λ p. true

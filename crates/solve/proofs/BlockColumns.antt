@@ -1,41 +1,24 @@
--- The turns of the substitutions on a block column of blocked memory. Assumes nothing.
+-- The turns of the substitutions on a block column of blocked memory; where its entries are is in BlockPlaces. Assumes nothing.
 use Prim.Native.Nat.{ℕ, _+_, _-_, _≤_, _<_}
 use native.Mathlib.Omega.{arith}
 use mathlib.Core.Path.{_≡_, refl, sym, ap, ap₂, _∙_}
 use mathlib.Core.List.{List, _++_}
-use lib.ListN.{length, getD, set, take, drop, length-take, length-set}
-use lib.Seq.{getD-take}
+use lib.ListN.{length, getD, set, take, drop, length-set}
 use lib.Ieee.{Float, nan, binary64, sub, mul, div}
-use Rattle.shape.specs.Bounds.{maxOrder}
-use Rattle.shape.specs.Places.{blockStart, placeInBlock}
-use Rattle.shape.proofs.Parts.{starts-zero}
-use Rattle.shape.proofs.Bounds.{block-start-le, triangle-le}
-use Rattle.shape.proofs.Rows.{rowLength, block-start-rows, place-in-block-row, place-in-block-lt, place-in-block-next-row-inside, place-in-block-next-row-under}
+use Rattle.shape.specs.Places.{placeInBlock}
+use Rattle.calls.specs.Arithmetic.{minusProducts}
 use Rattle.kernels.specs.Kernels.{Replaced, MultipleSubtracted, risingFrom}
-use Rattle.solve.specs.Substitution.{entriesAt, TriangleForward, RowsSubtracted}
-use Rattle.kernels.proofs.Parts.{getD-part, prefix-replaced}
-use Rattle.kernels.proofs.Products.{rising-prefix}
-use Rattle.solve.proofs.Triangles.{forward-next, rows-next, ProductsFrom, products-next, RowTaken, TakenFrom, taken-next}
+use Rattle.kernels.proofs.Parts.{getD-part, length-part, part-replaced}
+use Rattle.kernels.proofs.Products.{minus-next, rising-prefix}
+use Rattle.solve.specs.Substitution.{entriesAt, BlockColumn, TriangleForward, RowsSubtracted, RowTaken, ColumnsSubtracted}
+use Rattle.solve.proofs.BlockPlaces.{row-entries-from, row-entries, before-inside}
+use Rattle.solve.proofs.Rows.{replaced-of-filled, rows-next}
+use Rattle.solve.proofs.Triangles.{forward-next, TakenFrom, taken-next}
 
--- ---- places
-
-pub row-place : (w r s : ℕ) → placeInBlock w r 0 + s ≡ placeInBlock w r s
-row-place w r s = omega (arith, place-in-block-row w r s, place-in-block-row w r 0)
-
-pub first-place : (w : ℕ) → 0 ≡ placeInBlock w 0 0
-first-place w = omega (arith, place-in-block-row w 0 0, starts-zero (rowLength w))
-
-pub room-inside : (h w r : ℕ) → w ≤ h → r < w → placeInBlock w r 0 + r < blockStart h w
-room-inside h w r full less = omega (arith, row-place w r r, place-in-block-lt h w r r full (omega arith) (omega arith))
-
-pub room-under : (h w r : ℕ) → 0 < w → w ≤ h → w ≤ r → r < h → placeInBlock w r 0 + w ≤ blockStart h w
-room-under h w r pos full low less = omega (arith, row-place w r (w - 1), place-in-block-lt h w r (w - 1) full less (omega arith))
-
-pub end-place : (h w : ℕ) → w ≤ h → placeInBlock w h 0 ≡ blockStart h w
-end-place h w full = omega (arith, place-in-block-row w h 0, block-start-rows h w full)
-
-pub values-le : (h w : ℕ) → w ≤ h → h ≤ maxOrder → blockStart h w ≤ 8002000
-values-le h w full order = omega (arith, block-start-le h w full, triangle-le h order)
+-- other rows of a right-hand side beside it
+pub rows-beside : (h w : ℕ) (part v v′ : List Float) → BlockColumn h w part v → length v′ ≡ length v → BlockColumn h w part v′
+rows-beside h w part v v′ column e =
+    record { order = column .order; columns = column .columns; fits = column .fits; values = column .values; rows = e ∙ column .rows }
 
 -- ---- forward
 
@@ -43,89 +26,93 @@ module _ (h w : ℕ) (part v₀ v : List Float) (full : w ≤ h) (size : length 
   abbrev coefficient : ℕ → ℕ → Float
   coefficient = entriesAt (placeInBlock w) part
 
-  row-entries : (r at k : ℕ) → at ≡ placeInBlock w r 0 → getD part (at + k) nan ≡ getD part (placeInBlock w r k) nan
-  row-entries r at k e = ap (λ p. getD part p nan) (ap (λ a. a + k) e ∙ row-place w r k)
-
   pub triangle-row :
       (r at : ℕ) (value : Float) → r < w → at ≡ placeInBlock w r 0 → value ≡ risingFrom part at (take r v) (length (take r v)) (getD v r nan) →
       TriangleForward coefficient r v₀ v → TriangleForward coefficient (r + 1) v₀ (set v r (div binary64 value (getD part (at + r) nan)))
   triangle-row r at value less place e s =
-      rw (row-entries r at r place)
+      rw (row-entries w r at r part place)
       (forward-next coefficient r v₀ v value (omega arith) s
-      (e ∙ rising-prefix (λ k. coefficient r k) part v at r (getD v r nan) (omega (arith, s .size)) (λ k p. row-entries r at k place)))
+      (e ∙ rising-prefix (λ k. coefficient r k) part v at r (getD v r nan) (omega (arith, s .size)) (λ k p. row-entries w r at k part place)))
 
   pub under-row :
-      (r at : ℕ) (value : Float) → w ≤ r → r < h → at ≡ placeInBlock w r 0 → value ≡ risingFrom part at (take w v) (length (take w v)) (getD v r nan) →
-      RowsSubtracted coefficient w w r v₀ v → RowsSubtracted coefficient w w (r + 1) v₀ (set v r value)
-  under-row r at value low less place e s =
-      rows-next coefficient w w r v₀ v value (omega arith) low (omega arith) s
-      (e ∙ rising-prefix (λ k. coefficient r k) part v at w (getD v r nan) (omega (arith, s .size)) (λ k p. row-entries r at k place))
+      (from r at : ℕ) (value : Float) → w ≤ from → from ≤ r → r < h → at ≡ placeInBlock w r 0 →
+      value ≡ risingFrom part at (take w v) (length (take w v)) (getD v r nan) →
+      RowsSubtracted coefficient w from r v₀ v → RowsSubtracted coefficient w from (r + 1) v₀ (set v r value)
+  under-row from r at value low le less place e s =
+      rows-next coefficient w from r v₀ v value low le (omega arith) s
+      (e ∙ rising-prefix (λ k. coefficient r k) part v at w (getD v r nan) (omega (arith, s .size)) (λ k p. row-entries w r at k part place))
+
+-- eight rows loaded, reduced and stored
+pub rows8-done :
+    (w r : ℕ) (part v loaded reduced v′ : List Float) (places : ℕ → ℕ) → w ≤ length v →
+    ((s : ℕ) → s < 8 → getD loaded s nan ≡ getD v (r + s) nan) → ((s : ℕ) → s < 8 → places s ≡ placeInBlock w (r + s) 0) →
+    ((s : ℕ) → s < 8 → getD reduced s nan ≡ risingFrom part (places s) (take w v) (length (take w v)) (getD loaded s nan)) →
+    Replaced nan r 8 v reduced v′ → RowsSubtracted (entriesAt (placeInBlock w) part) w r (r + 8) v v′
+rows8-done w r part v loaded reduced v′ places fits load placed reduce whole =
+    replaced-of-filled _ (λ s. getD reduced s nan) r 8 (r + 8) v v′ refl whole
+    (λ s p.
+    reduce s p
+    ∙ rising-prefix (λ k. getD part (placeInBlock w (r + s) k) nan) part v (places s) w (getD loaded s nan) fits
+    (λ k q. row-entries w (r + s) (places s) k part (placed s p))
+    ∙ ap (minusProducts (λ k. getD part (placeInBlock w (r + s) k) nan) (λ k. getD v k nan) w) (load s p))
 
 -- ---- backward
 
 row-taken :
-    (coefficient : ℕ → ℕ → Float) (q m at end : ℕ) (part v u : List Float) (x : Float) → m ≤ length v → at + m ≡ end →
-    ((s : ℕ) → s < m → getD part (at + s) nan ≡ coefficient q s) →
-    MultipleSubtracted (take m v) (take (end - at) (drop at part)) x u → RowTaken coefficient q m x v (u ++ drop m v)
-row-taken coefficient q m at end part v u x fits e same subtracted =
-    let first : length (take m v) ≡ m = omega (arith, length-take m v) in
-    let whole : Replaced nan 0 m v u (u ++ drop m v) = prefix-replaced nan m v u fits (subtracted .size ∙ first) in
-    record {
-      size = whole .size;
-      taken = λ s p.
-          let none : 0 + s ≡ s = omega arith in
-          ap (λ i. getD (u ++ drop m v) i nan) (sym none) ∙ whole .inside s p ∙ subtracted .value s (omega arith)
-          ∙ ap₂ (λ t a. sub binary64 t (mul binary64 a x)) (getD-take m v s nan p) (getD-part nan at (end - at) part s (omega arith) ∙ same s p);
-      others = λ s p. whole .after s (omega arith);
-    }
+    (coefficient : ℕ → ℕ → Float) (q from count to at end : ℕ) (part v u : List Float) (x : Float) →
+    from + count ≡ to → to ≤ length v → at + count ≡ end →
+    ((i : ℕ) → i < count → getD part (at + i) nan ≡ coefficient q (from + i)) →
+    MultipleSubtracted (take count (drop from v)) (take (end - at) (drop at part)) x u →
+    RowTaken coefficient q x from to v (take from v ++ (u ++ drop count (drop from v)))
+row-taken coefficient q from count to at end part v u x rows fits values same subtracted =
+    let size : length (take count (drop from v)) ≡ count = length-part nan from count v (omega arith) in
+    replaced-of-filled _ (λ i. getD u i nan) from count to v _ rows (part-replaced nan from count v u (omega arith) (subtracted .size ∙ size))
+    (λ i p.
+    subtracted .value i (omega arith)
+    ∙ ap₂ (λ t a. sub binary64 t (mul binary64 a x)) (getD-part nan from count v i p) (getD-part nan at (end - at) part i (omega arith) ∙ same i p))
 
-module _ (h w : ℕ) (part v₀ v u : List Float) (full : w ≤ h) (size : length v₀ ≡ h) where
-  pub row-under-up :
-      (r end : ℕ) → w < r → r ≤ h → end ≡ placeInBlock w r 0 → ProductsFrom (entriesAt (placeInBlock w) part) h w r v₀ v →
-      MultipleSubtracted (take w v) (take (end - (end - w)) (drop (end - w) part)) (getD v (r - 1) nan) u →
-      (end - w ≡ placeInBlock w (r - 1) 0) × ProductsFrom (entriesAt (placeInBlock w) part) h w (r - 1) v₀ (u ++ drop w v)
-  row-under-up r end low le place s subtracted =
-      let back : r - 1 + 1 ≡ r = omega arith in
-      let next : placeInBlock w r 0 ≡ placeInBlock w (r - 1) 0 + w = rw back at (place-in-block-next-row-under w (r - 1) 0 (omega arith)) in
-      let at : end - w ≡ placeInBlock w (r - 1) 0 = omega arith in
-      let before : ProductsFrom (entriesAt (placeInBlock w) part) h w (r - 1 + 1) v₀ v = rw back s in (
-        at,
-        products-next (entriesAt (placeInBlock w) part) h w (r - 1) v₀ v (u ++ drop w v) (omega arith) (omega arith) before
-            (row-taken (entriesAt (placeInBlock w) part) (r - 1) w (end - w) end part v u (getD v (r - 1) nan) (omega (arith, s .size)) (omega arith)
-            (λ i p. row-entries h w part v₀ v full size (r - 1) (end - w) i at) subtracted),
-      )
+-- a row below the triangle
+pub row-under :
+    (w r from at : ℕ) (part v u : List Float) (x : Float) → from ≤ w → w ≤ length v → at ≡ placeInBlock w r from →
+    MultipleSubtracted (take (w - from) (drop from v)) (take (at + (w - from) - at) (drop at part)) x u →
+    RowTaken (entriesAt (placeInBlock w) part) r x from w v (take from v ++ (u ++ drop (w - from) (drop from v)))
+row-under w r from at part v u x le fits place subtracted =
+    row-taken (entriesAt (placeInBlock w) part) r from (w - from) w at (at + (w - from)) part v u x (omega arith) fits refl
+    (λ i p. row-entries-from w r from at i part place) subtracted
 
-  pub row-inside-up :
-      (r at : ℕ) → 0 < r → r ≤ w → at ≡ placeInBlock w r 0 → TakenFrom (entriesAt (placeInBlock w) part) w r v₀ v →
-      MultipleSubtracted (take (r - 1) (set v (r - 1) (div binary64 (getD v (r - 1) nan) (getD part (at - r + (r - 1)) nan))))
-      (take (at - r + (r - 1) - (at - r)) (drop (at - r) part)) (div binary64 (getD v (r - 1) nan) (getD part (at - r + (r - 1)) nan)) u →
-      (at - r ≡ placeInBlock w (r - 1) 0)
-      × TakenFrom (entriesAt (placeInBlock w) part) w (r - 1) v₀
-      (u ++ drop (r - 1) (set v (r - 1) (div binary64 (getD v (r - 1) nan) (getD part (at - r + (r - 1)) nan))))
-  row-inside-up r at pos le place s subtracted =
-      let q : ℕ = r - 1 in
-      let back : q + 1 ≡ r = omega arith in
-      let next : placeInBlock w r 0 ≡ placeInBlock w q 0 + r = rw back at (place-in-block-next-row-inside w q 0 (omega arith)) in
-      let start : at - r ≡ placeInBlock w q 0 = omega arith in
-      let before : TakenFrom (entriesAt (placeInBlock w) part) w (q + 1) v₀ v = rw back s in
-      let diagonal : getD part (at - r + q) nan ≡ getD part (placeInBlock w q q) nan = row-entries h w part v₀ v full size q (at - r) q start in
-      let x : Float = div binary64 (getD v q nan) (getD part (at - r + q) nan) in (
-        start,
-        taken-next (entriesAt (placeInBlock w) part) w q v₀ v (u ++ drop q (set v q x)) (omega arith) (omega arith) before
-            (rw (sym diagonal)
-            (row-taken (entriesAt (placeInBlock w) part) q q (at - r) (at - r + q) part (set v q x) u x (omega (arith, s .size, length-set v q x)) refl
-            (λ i p. row-entries h w part v₀ v full size q (at - r) i start) subtracted)),
-      )
+-- a row of the triangle
+pub row-inside-up :
+    (h w r at : ℕ) (part v₀ v u : List Float) (x : Float) → w ≤ h → length v₀ ≡ h → 0 < r → r ≤ w → at ≡ placeInBlock w r 0 →
+    x ≡ div binary64 (getD v (r - 1) nan) (getD part (at - r + (r - 1)) nan) → TakenFrom (entriesAt (placeInBlock w) part) w r v₀ v →
+    MultipleSubtracted (take (r - 1) (set v (r - 1) x)) (take (at - r + (r - 1) - (at - r)) (drop (at - r) part)) x u →
+    (at - r ≡ placeInBlock w (r - 1) 0) × TakenFrom (entriesAt (placeInBlock w) part) w (r - 1) v₀ (u ++ drop (r - 1) (set v (r - 1) x))
+row-inside-up h w r at part v₀ v u x full size pos le place e s subtracted =
+    let q : ℕ = r - 1 in
+    let back : q + 1 ≡ r = omega arith in
+    let start : at - r ≡ placeInBlock w q 0 = before-inside h w r at pos le full place .1 in (
+      start,
+      taken-next (entriesAt (placeInBlock w) part) w q v₀ v (u ++ drop q (set v q x)) x (omega arith) (omega arith)
+          (e ∙ ap (div binary64 (getD v q nan)) (row-entries w q (at - r) q part start)) (rw back s)
+          (row-taken (entriesAt (placeInBlock w) part) q 0 q q (at - r) (at - r + q) part (set v q x) u x (omega arith)
+          (omega (arith, s .size, length-set v q x)) refl (λ i p. row-entries-from w q 0 (at - r) i part start) subtracted),
+    )
 
--- a row's start, from the next row's
-pub before-inside : (w r at : ℕ) → 0 < r → r ≤ w → at ≡ placeInBlock w r 0 → (r ≤ at) × (at - r ≡ placeInBlock w (r - 1) 0)
-before-inside w r at pos le place =
-    let back : r - 1 + 1 ≡ r = omega arith in
-    let next : placeInBlock w r 0 ≡ placeInBlock w (r - 1) 0 + r = rw back at (place-in-block-next-row-inside w (r - 1) 0 (omega arith)) in
-    (omega arith, omega arith)
+-- rows s to s + 15 less the products of the last k rows, as sixteen values
+abbrev pub Less16 : ℕ → ℕ → ℕ → ℕ → List Float → List Float → List Float → Type 0
+Less16 h w k s part v values =
+    (i : ℕ) → i < 16 →
+    getD values i nan
+    ≡ minusProducts (λ q. getD part (placeInBlock w (h - 1 - q) (s + i)) nan) (λ q. getD v (h - 1 - q) nan) k (getD v (s + i) nan)
 
-pub before-under : (w r end : ℕ) → w < r → end ≡ placeInBlock w r 0 → (w ≤ end) × (end - w ≡ placeInBlock w (r - 1) 0)
-before-under w r end low place =
-    let back : r - 1 + 1 ≡ r = omega arith in
-    let next : placeInBlock w r 0 ≡ placeInBlock w (r - 1) 0 + w = rw back at (place-in-block-next-row-under w (r - 1) 0 (omega arith)) in
-    (omega arith, omega arith)
+module _ (h w k s : ℕ) (part v values : List Float) (so : Less16 h w k s part v values) where
+  pub less16-next :
+      (at : ℕ) (next : List Float) → at ≡ placeInBlock w (h - 1 - k) s →
+      ((i : ℕ) → i < 16 → getD next i nan ≡ sub binary64 (getD values i nan) (mul binary64 (getD part (at + i) nan) (getD v (h - 1 - k) nan))) →
+      Less16 h w (k + 1) s part v next
+  less16-next at next place step i p =
+      step i p
+      ∙ ap₂ (λ t a. sub binary64 t (mul binary64 a (getD v (h - 1 - k) nan))) (so i p) (row-entries-from w (h - 1 - k) s at i part place)
+      ∙ sym (minus-next (λ q. getD part (placeInBlock w (h - 1 - q) (s + i)) nan) (λ q. getD v (h - 1 - q) nan) k (getD v (s + i) nan))
+
+  pub columns16-done : (v′ : List Float) → Replaced nan s 16 v values v′ → ColumnsSubtracted (entriesAt (placeInBlock w) part) h k s (s + 16) v v′
+  columns16-done v′ whole = replaced-of-filled _ (λ i. getD values i nan) s 16 (s + 16) v v′ refl whole so

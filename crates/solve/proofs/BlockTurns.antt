@@ -10,10 +10,10 @@ use Rattle.shape.specs.Places.{triangle, blockOf, blockStart, width, placeInBlo
 use Rattle.shape.proofs.Bounds.{block-start-le}
 use Rattle.shape.proofs.Columns.{block-start-split}
 use Rattle.shape.proofs.Blocks.{block-of-le, block-of-lt, block-of-multiple, block-of-next}
-use Rattle.calls.specs.Triangles.{height, load}
+use Rattle.calls.specs.Triangles.{Triangle, height, load}
 use Rattle.solve.specs.Substitution.{entriesAt, ForwardDone, BackwardDone}
 use Rattle.solve.proofs.Factors.{block-agrees}
-use Rattle.solve.proofs.Substitution.{ForwardTo, BackwardTo, lent, returned, forward-lent, backward-lent}
+use Rattle.solve.proofs.Substitution.{Agrees, ForwardTo, BackwardTo, lent, returned, forward-lent, backward-lent}
 
 -- a block column's values end inside the triangle
 pub block-room : (n c w : ℕ) → c + w ≤ n → blockStart n c + blockStart (n - c) w ≤ triangle n
@@ -30,21 +30,25 @@ first-next n b c pos first inside = rw (width-inside n b c inside) (block-of-nex
 
 module _ (n b c at w : ℕ) (matrix y work v′ : List Float) (pos : 0 < b) (size : length matrix ≡ triangle n) (first : blockOf b c ≡ c)
     (place : at ≡ blockStart n c) (wide : w ≡ width n b c) (fits : c + w ≤ n) where
+  abbrev factor : Triangle
+  factor = load (blockedPlace n b) (height n) n matrix
+
+  abbrev coefficient : ℕ → ℕ → Float
+  coefficient = entriesAt (placeInBlock w) (take (length matrix - at) (drop at matrix))
+
+  agrees : Agrees n c w factor coefficient
+  agrees =
+      rw (wide, place)
+      (block-agrees n c matrix b (length matrix - blockStart n c) first
+      (omega (arith, block-room n c w fits, ap (blockStart (n - c)) wide)))
+
   pub block-forward :
-      ForwardTo n (load (blockedPlace n b) (height n) n matrix) y c work →
-      ForwardDone (entriesAt (placeInBlock w) (take (length matrix - at) (drop at matrix))) (n - c) w (lent c work) v′ →
-      ForwardTo n (load (blockedPlace n b) (height n) n matrix) y (c + w) (returned c work v′)
-  block-forward state done =
-      forward-lent n c w (load (blockedPlace n b) (height n) n matrix) y work v′ (entriesAt (placeInBlock w) (take (length matrix - at) (drop at matrix))) fits
-      (rw (wide, place) (block-agrees n c matrix b (length matrix - blockStart n c) first (omega (arith, block-room n c w fits, ap (blockStart (n - c)) wide)))) state done
+      ForwardTo n factor y c work → ForwardDone coefficient (n - c) w (lent c work) v′ → ForwardTo n factor y (c + w) (returned c work v′)
+  block-forward state done = forward-lent n c w factor y work v′ coefficient fits agrees state done
 
   pub block-backward :
-      BackwardTo n (load (blockedPlace n b) (height n) n matrix) y (c + w) work →
-      BackwardDone (entriesAt (placeInBlock w) (take (length matrix - at) (drop at matrix))) (n - c) w (lent c work) v′ →
-      BackwardTo n (load (blockedPlace n b) (height n) n matrix) y c (returned c work v′)
-  block-backward state done =
-      backward-lent n c w (load (blockedPlace n b) (height n) n matrix) y work v′ (entriesAt (placeInBlock w) (take (length matrix - at) (drop at matrix))) fits
-      (rw (wide, place) (block-agrees n c matrix b (length matrix - blockStart n c) first (omega (arith, block-room n c w fits, ap (blockStart (n - c)) wide)))) state done
+      BackwardTo n factor y (c + w) work → BackwardDone coefficient (n - c) w (lent c work) v′ → BackwardTo n factor y c (returned c work v′)
+  block-backward state done = backward-lent n c w factor y work v′ coefficient fits agrees state done
 
 -- a first column after the first is b after another
 first-before : (b k : ℕ) → 0 < b → blockOf b (b * suc k - 1) ≡ b * k

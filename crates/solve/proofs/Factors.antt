@@ -13,8 +13,8 @@ use Rattle.shape.proofs.Rows.{place-in-block-lt}
 use Rattle.shape.proofs.Blocks.{width-le, width-le-block, blocked-place-at}
 use Rattle.calls.specs.Triangles.{entry, height, load}
 use Rattle.calls.proofs.Triangles.{entry-load}
-use Rattle.solve.specs.Substitution.{entriesAt}
 use Rattle.kernels.proofs.Parts.{getD-part}
+use Rattle.solve.specs.Substitution.{entriesAt}
 use Rattle.solve.proofs.Substitution.{Agrees}
 
 -- an entry at place p of the part

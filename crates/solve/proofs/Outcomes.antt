@@ -30,12 +30,16 @@ module _ (layout : Layout) (n b m : ℕ) (a rhs w : List Float) (checks : CallRe
     part-length = length-take-le n w work-fits
 
     pub checked : Checked layout n b a (take n w)
-    checked = record { order = checks-accepted .sizes .order; block = checks-accepted .sizes .blockLow; matrixLength = checks-accepted .sizes .matrix; workLength = part-length }
+    checked =
+        let sizes = checks-accepted .sizes in
+        record { order = sizes .order; block = sizes .blockLow; matrixLength = sizes .matrix; workLength = part-length }
 
     pub rhs-length : length rhs ≡ n * m
     rhs-length = checks-accepted .rhsLength
 
-    pub all-done : (r : CallResult) (rhs′ : List Float) → AllSolved n m (factorOf layout n b a) rhs r rhs′ → SolvedAs (solve layout n b m a rhs w) r rhs′ (replicate n zero64 ++ drop n w)
+    pub all-done :
+        (r : CallResult) (rhs′ : List Float) → AllSolved n m (factorOf layout n b a) rhs r rhs′ →
+        SolvedAs (solve layout n b m a rhs w) r rhs′ (replicate n zero64 ++ drop n w)
     unfolding solve solved clear
     all-done r rhs′ f =
         rw (ap accepted (sym e) ∙ t)

@@ -10,12 +10,11 @@ use Rattle.shape.specs.Places.{triangle, packedPlace, blockStart}
 use Rattle.shape.proofs.Bounds.{block-start-le}
 use Rattle.shape.proofs.Columns.{block-start-next, packed-place-diagonal, packed-place-column}
 use Rattle.calls.specs.Arithmetic.{minusProducts}
+use Rattle.calls.specs.Triangles.{height, load}
 use Rattle.kernels.specs.Kernels.{Replaced, MultipleSubtracted, fallingFrom}
-use Rattle.solve.specs.Substitution.{entriesAt, ForwardDone, ProductsSubtracted}
 use Rattle.kernels.proofs.Parts.{getD-part, part-replaced, length-part}
 use Rattle.kernels.proofs.Products.{minus-none, minus-next, falling-part}
-use Rattle.calls.specs.Triangles.{height, load}
-use Rattle.solve.specs.Substitution.{BackwardDone}
+use Rattle.solve.specs.Substitution.{entriesAt, ForwardDone, ProductsSubtracted, BackwardDone}
 use Rattle.solve.proofs.Factors.{triangle-rest, column-agrees, packed-agrees}
 use Rattle.solve.proofs.Substitution.{ForwardTo, BackwardTo, lent, returned, length-lent, forward-lent, backward-lent}
 use Rattle.solve.proofs.Triangles.{BackwardRows, backward-next}
@@ -60,7 +59,8 @@ module _ (column v part′ v′ : List Float) (pos : 0 < length v) (same : lengt
             ∙ getD-set-other v 0 r _ nan (λ g. omega arith))
             (getD-part nan 1 (length column - 1) column (r - 1) (omega arith) ∙ ap (λ q. getD column q nan) at)
             ∙ ap (λ u. sub binary64 (getD v r nan) (mul binary64 (getD column r nan) u)) (sym top)
-            ∙ ap (λ t. sub binary64 t (mul binary64 (getD column r nan) (getD v′ 0 nan))) (sym (minus-none (λ k. getD column r nan) (λ k. getD v′ k nan) _))
+            ∙ ap (λ t. sub binary64 t (mul binary64 (getD column r nan) (getD v′ 0 nan)))
+            (sym (minus-none (λ k. getD column r nan) (λ k. getD v′ k nan) _))
             ∙ sym (minus-next (λ k. getD column r nan) (λ k. getD v′ k nan) 0 (getD v r nan));
       }
     where
@@ -69,7 +69,7 @@ module _ (column v part′ v′ : List Float) (pos : 0 < length v) (same : lengt
 
 -- ---- one row of the triangle backward
 
-pub packed-place-down : (n i m j : ℕ) → packedPlace n (i + m) j ≡ packedPlace n i j + m
+packed-place-down : (n i m j : ℕ) → packedPlace n (i + m) j ≡ packedPlace n i j + m
 unfolding packedPlace
 packed-place-down n i m j = omega arith
 
@@ -112,7 +112,7 @@ pub under8-done :
 under8-done h part v values reduced v′ starts full size loaded placed subtracted whole =
     record {
       size = whole .size;
-      inside = λ r p.
+      inside = λ r low p.
           let none : 0 + r ≡ r = omega arith in
           let rows : length v - 8 ≡ h - 8 = omega arith in
           ap (λ q. getD v′ q nan) (sym none) ∙ whole .inside r p ∙ subtracted r p
@@ -120,7 +120,8 @@ under8-done h part v values reduced v′ starts full size loaded placed subtract
           (λ i q. ap (λ a. getD part a nan) (ap (λ a. a + i) (placed r p) ∙ sym (packed-place-down h 8 i r)))
           ∙ ap₂ (minusProducts (λ k. getD part (packedPlace h (h - 1 - k) r) nan) (λ k. getD v (h - 1 - k) nan)) rows
           (loaded r p ∙ ap (λ q. getD v q nan) none);
-      under = λ r p. whole .after r (omega arith);
+      before = λ r p. absurd (omega arith);
+      after = λ r p. whole .after r (omega arith);
     }
 
 pub under8-room : (h s : ℕ) → s < 8 → 8 ≤ h → packedPlace h 8 s + (h - 8) ≤ triangle h
@@ -139,7 +140,8 @@ pub forward-turn :
     ForwardTo n (load (packedPlace n) (height n) n matrix) rhs (k + 1) (returned k work v′)
 forward-turn n k at matrix rhs work v′ less place state done =
     let rows : at + (n - k) - at ≡ n - k = omega arith in
-    forward-lent n k 1 (load (packedPlace n) (height n) n matrix) rhs work v′ (entriesAt (λ r s. r) (take (at + (n - k) - at) (drop at matrix))) (omega arith)
+    forward-lent n k 1 (load (packedPlace n) (height n) n matrix) rhs work v′
+    (entriesAt (λ r s. r) (take (at + (n - k) - at) (drop at matrix))) (omega arith)
     (rw (rows, place) (column-agrees n k matrix (n - k) less (omega arith))) state
     (rw (length-lent n k work (state .size) (omega arith)) at done)
 
@@ -149,6 +151,7 @@ pub backward-turn :
     BackwardDone (entriesAt (packedPlace h) (take (length matrix - at) (drop at matrix))) h w (lent c work) v′ →
     BackwardTo n (load (packedPlace n) (height n) n matrix) y c (returned c work v′)
 backward-turn n c w h at matrix y work v′ size fits rows place state done =
-    backward-lent n c w (load (packedPlace n) (height n) n matrix) y work v′ (entriesAt (packedPlace (n - c)) (take (length matrix - at) (drop at matrix))) fits
+    backward-lent n c w (load (packedPlace n) (height n) n matrix) y work v′
+    (entriesAt (packedPlace (n - c)) (take (length matrix - at) (drop at matrix))) fits
     (rw place (packed-agrees n c matrix (length matrix - blockStart n c) w fits (omega (arith, triangle-rest n c (omega arith))))) state
     (rw rows at done)

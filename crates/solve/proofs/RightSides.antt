@@ -76,7 +76,7 @@ module _ (n : ℕ) (l : Triangle) (rhs : List Float) where
   unfolding solutions
   rest-kept q = drop-at (solvedFirst q) (drop (q * n) rhs) (q * n) (length-solved q)
 
-  pub part-kept : (q : ℕ) → take n (drop (q * n) (solutions n l q rhs)) ≡ rhsPart n q rhs
+  part-kept : (q : ℕ) → take n (drop (q * n) (solutions n l q rhs)) ≡ rhsPart n q rhs
   unfolding rhsPart
   part-kept q = ap (take n) (rest-kept q)
 
@@ -92,7 +92,7 @@ module _ (n : ℕ) (l : Triangle) (rhs : List Float) where
       ∙ omega (arith, length-solved q, length-drop (q * n) rhs, mul-comm n m)
 
   -- one more is solved
-  pub next-solved :
+  next-solved :
       (q : ℕ) (part : List Float) → part ≡ solution n l (rhsPart n q rhs) →
       take (q * n) (solutions n l q rhs) ++ (part ++ drop n (drop (q * n) (solutions n l q rhs))) ≡ solutions n l (q + 1) rhs
   unfolding solutions iterate
@@ -109,18 +109,18 @@ module _ (n : ℕ) (l : Triangle) (rhs : List Float) where
 
   -- ---- the verdict
 
-  pub judge-passed : (q : ℕ) → passes n l (rhsPart n q rhs) ≡ true → judgeRhs q ≡ success
+  judge-passed : (q : ℕ) → passes n l (rhsPart n q rhs) ≡ true → judgeRhs q ≡ success
   unfolding rule12
   judge-passed q e = ap (λ b. refuseIf (not b) (refusal 12 q zero64)) e
 
-  pub judge-refused : (q : ℕ) → passes n l (rhsPart n q rhs) ≡ false → judgeRhs q ≡ refusal 12 q zero64
+  judge-refused : (q : ℕ) → passes n l (rhsPart n q rhs) ≡ false → judgeRhs q ≡ refusal 12 q zero64
   unfolding rule12
   judge-refused q e = ap (λ b. refuseIf (not b) (refusal 12 q zero64)) e
 
-  pub lowest-passed : (q : ℕ) → passes n l (rhsPart n q rhs) ≡ true → lowestRefusal judgeRhs q ≡ success → lowestRefusal judgeRhs (q + 1) ≡ success
+  lowest-passed : (q : ℕ) → passes n l (rhsPart n q rhs) ≡ true → lowestRefusal judgeRhs q ≡ success → lowestRefusal judgeRhs (q + 1) ≡ success
   lowest-passed q e h = lowest-next judgeRhs q h ∙ judge-passed q e
 
-  pub all-refused :
+  all-refused :
       (m q : ℕ) (r : CallResult) (rhs′ : List Float) → q < m → lowestRefusal judgeRhs q ≡ success → passes n l (rhsPart n q rhs) ≡ false →
       r ≡ refusal 12 q zero64 → rhs′ ≡ solutions n l q rhs → AllSolved n m l rhs r rhs′
   unfolding rhsVerdict
@@ -132,7 +132,8 @@ module _ (n : ℕ) (l : Triangle) (rhs : List Float) where
       }
 
   pub all-solved :
-      (m : ℕ) (r : CallResult) (rhs′ : List Float) → lowestRefusal judgeRhs m ≡ success → r ≡ success → rhs′ ≡ solutions n l m rhs → AllSolved n m l rhs r rhs′
+      (m : ℕ) (r : CallResult) (rhs′ : List Float) → lowestRefusal judgeRhs m ≡ success → r ≡ success → rhs′ ≡ solutions n l m rhs →
+      AllSolved n m l rhs r rhs′
   unfolding rhsVerdict
   all-solved m r rhs′ before er e = record { result = er ∙ sym before; kept = rw er e }
 
@@ -152,7 +153,8 @@ module _ (n m : ℕ) (l : Triangle) (rhs : List Float) (q from k : ℕ) (s part�
         ∙ ap (λ x. take from s ++ x) (take-append-drop k (drop from s)) ∙ take-append-drop from s
 
     pub turn-refused :
-        (r : CallResult) → q < m → not passed ≡ true → r ≡ refusal 12 q zero64 → AllSolved n m l rhs r (take from s ++ (part′ ++ drop k (drop from s)))
+        (r : CallResult) → q < m → not passed ≡ true → r ≡ refusal 12 q zero64 →
+        AllSolved n m l rhs r (take from s ++ (part′ ++ drop k (drop from s)))
     turn-refused r h np er =
         all-refused n l rhs m q r (take from s ++ (part′ ++ drop k (drop from s))) h before
         (ap (passes n l) (sym lent-is) ∙ sym (one .verdict) ∙ not-true passed np) er (turn-kept np ∙ so-far)

@@ -12,9 +12,9 @@ use Rattle.calls.specs.Arithmetic.{minusProducts, forward, backward}
 use Rattle.calls.proofs.Columns.{products-same}
 use Rattle.calls.proofs.Entries.{length-forward, forward-entry, length-backward, backward-entry}
 use Rattle.kernels.specs.Kernels.{Replaced}
-use Rattle.solve.specs.Substitution.{TriangleForward, RowsSubtracted, ForwardDone, ProductsSubtracted, BackwardDone}
 use Rattle.kernels.proofs.Parts.{getD-part, length-part, part-replaced}
 use Rattle.kernels.proofs.Products.{minus-none, minus-add}
+use Rattle.solve.specs.Substitution.{TriangleForward, RowsSubtracted, ForwardDone, ProductsSubtracted, BackwardDone}
 
 -- the block column that begins with column c has the factor's entries
 abbrev pub Agrees : ℕ → ℕ → ℕ → Triangle → (ℕ → ℕ → Float) → Type 0
@@ -72,7 +72,7 @@ module _
             ∙ sym (forward-entry n l rhs (c + r) (omega arith))
       ]
 
-  pub forward-further : Replaced nan c (n - c) work v′ work′ → ForwardTo n l rhs (c + w) work′
+  forward-further : Replaced nan c (n - c) work v′ work′ → ForwardTo n l rhs (c + w) work′
   forward-further whole =
       record {
         size = whole .size ∙ state .size;
@@ -90,30 +90,7 @@ module _
             ∙ row-products w (i - c) (omega arith) (omega arith) (omega arith) (triangle-rows w (omega arith)));
       }
 
--- the rows below the triangle, some after others
-pub rows-none : (coefficient : ℕ → ℕ → Float) (w from : ℕ) (v : List Float) → RowsSubtracted coefficient w from from v v
-rows-none coefficient w from v =
-    record { size = refl; inside = λ r p h. absurd (omega arith); before = λ r h. refl; after = λ r h. refl }
-
-pub rows-join :
-    (coefficient : ℕ → ℕ → Float) (w from mid to : ℕ) (v u v′ : List Float) → w ≤ from → from ≤ mid → mid ≤ to →
-    RowsSubtracted coefficient w from mid v u → RowsSubtracted coefficient w mid to u v′ → RowsSubtracted coefficient w from to v v′
-rows-join coefficient w from mid to v u v′ low le le′ one two =
-    record {
-      size = two .size ∙ one .size;
-      inside = λ r p h.
-          elim (decLt r mid) [
-            | yes before ↦ two .before r before ∙ one .inside r p before
-            | no after ↦
-                two .inside r (omega arith) h
-                ∙ ap (minusProducts (λ k. coefficient r k) (λ k. getD u k nan) w) (one .after r (omega arith))
-                ∙ products-same (λ k. coefficient r k) (λ k. coefficient r k) (λ k. getD u k nan) (λ k. getD v k nan) w (getD v r nan)
-                (λ k q. refl) (λ k q. one .before k (omega arith))
-          ];
-      before = λ r h. two .before r (omega arith) ∙ one .before r h;
-      after = λ r h. two .after r h ∙ one .after r (omega arith);
-    }
-
+-- the triangle, and then the rows below it
 pub forward-done :
     (coefficient : ℕ → ℕ → Float) (h w : ℕ) (v u v′ : List Float) →
     TriangleForward coefficient w v u → RowsSubtracted coefficient w w h u v′ → ForwardDone coefficient h w v v′
@@ -194,7 +171,8 @@ module _
             (part r (omega arith) ∙ state .rest (c + r) (omega arith))
             ∙ products-same (λ k. coefficient (n - c - 1 - k) r) (λ k. entry l (n - 1 - k) (c + r)) (λ k. getD v′ (n - c - 1 - k) nan)
             (λ k. x (n - 1 - k)) q (getD y (c + r) nan)
-            (λ k p. rw (row-of-up n c k (omega arith)) at (agrees (n - c - 1 - k) r inside (up-above n c q r k e p) (up-inside n c k (omega arith)))) later
+            (λ k p. rw (row-of-up n c k (omega arith)) at (agrees (n - c - 1 - k) r inside (up-above n c q r k e p) (up-inside n c k (omega arith))))
+            later
             ∙ ap (λ m. minusProducts (λ k. entry l (n - 1 - k) (c + r)) (λ k. x (n - 1 - k)) m (getD y (c + r) nan)) (sym count′))
             (agrees r r inside (omega arith) (omega arith))
             ∙ sym (backward-entry n l y (c + r) (omega arith))
@@ -211,7 +189,7 @@ module _
             row-up q (n - c - 1 - q) (row-and-up n c q (omega arith)) (rw here at (rows-up m (omega arith))) ∙ ap x (row-of-up n c q (omega arith))
       ]
 
-  pub backward-further : Replaced nan c (n - c) work v′ work′ → BackwardTo n l y c work′
+  backward-further : Replaced nan c (n - c) work v′ work′ → BackwardTo n l y c work′
   backward-further whole =
       record {
         size = whole .size ∙ state .size;
@@ -235,12 +213,12 @@ backward-done coefficient h w v u v′ le one two =
           two .inside r p
           ∙ ap (λ t. div binary64 t (coefficient r r))
           (ap (λ t. minusProducts (λ k. coefficient (w - 1 - k) r) (λ k. getD v′ (w - 1 - k) nan) (w - 1 - r) t)
-          (one .inside r p
+          (one .inside r (omega arith) p
           ∙ products-same (λ k. coefficient (h - 1 - k) r) (λ k. coefficient (h - 1 - k) r) (λ k. getD v (h - 1 - k) nan)
           (λ k. getD v′ (h - 1 - k) nan) (h - w) (getD v r nan) (λ k q. refl)
-          (λ k q. sym (two .under (h - 1 - k) (up-under h w k q) ∙ one .under (h - 1 - k) (up-under h w k q))))
+          (λ k q. sym (two .under (h - 1 - k) (up-under h w k q) ∙ one .after (h - 1 - k) (up-under h w k q))))
           ∙ later r p);
-      under = λ r p. two .under r p ∙ one .under r p;
+      under = λ r p. two .under r p ∙ one .after r p;
     }
   where
     later :
@@ -275,7 +253,9 @@ pub length-returned :
 length-returned n c work v′ e le size =
     part-replaced nan c (length work - c) work v′ (omega arith) (size ∙ length-part nan c (length work - c) work (omega arith)) .size ∙ e
 
-module _ (n c w : ℕ) (l : Triangle) (y work v′ : List Float) (coefficient : ℕ → ℕ → Float) (fits : c + w ≤ n) (agrees : Agrees n c w l coefficient) where
+module _
+    (n c w : ℕ) (l : Triangle) (y work v′ : List Float) (coefficient : ℕ → ℕ → Float)
+    (fits : c + w ≤ n) (agrees : Agrees n c w l coefficient) where
   same-part : length work ≡ n → (r : ℕ) → c + r < n → getD (lent c work) r nan ≡ getD work (c + r) nan
   same-part e r h = getD-part nan c (length work - c) work r (omega arith)
 

@@ -4,7 +4,7 @@ use Prim.Native.Nat.{ℕ, _-_, _≤_, _<_}
 use mathlib.Core.Path.{_≡_}
 use mathlib.Core.List.{List}
 use lib.ListN.{length, getD}
-use lib.Ieee.{Float, nan, binary64, div}
+use lib.Ieee.{Float, nan, binary64, sub, mul, div}
 use Rattle.shape.specs.Bounds.{maxOrder}
 use Rattle.shape.specs.Places.{blockStart}
 use Rattle.calls.specs.Arithmetic.{minusProducts}
@@ -21,6 +21,13 @@ pub record BlockColumn (h w : ℕ) (part work : List Float) : Type 0 where
   pub values : blockStart h w ≤ length part
   pub rows : length work ≡ h
 
+-- v′ is v but for the rows from `from` on and before `to`, where it is `value r`
+pub record RowsReplaced (value : ℕ → Float) (from to : ℕ) (v v′ : List Float) : Type 0 where
+  pub size : length v′ ≡ length v
+  pub inside : (r : ℕ) → from ≤ r → r < to → getD v′ r nan ≡ value r
+  pub before : (r : ℕ) → r < from → getD v′ r nan ≡ getD v r nan
+  pub after : (r : ℕ) → to ≤ r → getD v′ r nan ≡ getD v r nan
+
 -- ---- forward
 
 -- the rows of the triangle are finished
@@ -32,13 +39,9 @@ pub record TriangleForward (coefficient : ℕ → ℕ → Float) (w : ℕ) (v v�
   pub under : (r : ℕ) → w ≤ r → getD v′ r nan ≡ getD v r nan
 
 -- the triangle being finished, its products are subtracted from the rows from `from` on and before `to`
-pub record RowsSubtracted (coefficient : ℕ → ℕ → Float) (w from to : ℕ) (v v′ : List Float) : Type 0 where
-  pub size : length v′ ≡ length v
-  pub inside :
-      (r : ℕ) → from ≤ r → r < to →
-      getD v′ r nan ≡ minusProducts (λ k. coefficient r k) (λ k. getD v k nan) w (getD v r nan)
-  pub before : (r : ℕ) → r < from → getD v′ r nan ≡ getD v r nan
-  pub after : (r : ℕ) → to ≤ r → getD v′ r nan ≡ getD v r nan
+abbrev pub RowsSubtracted : (ℕ → ℕ → Float) → ℕ → ℕ → ℕ → List Float → List Float → Type 0
+RowsSubtracted coefficient w from to v v′ =
+    RowsReplaced (λ r. minusProducts (λ k. coefficient r k) (λ k. getD v k nan) w (getD v r nan)) from to v v′
 
 -- both
 pub record ForwardDone (coefficient : ℕ → ℕ → Float) (h w : ℕ) (v v′ : List Float) : Type 0 where
@@ -52,13 +55,19 @@ pub record ForwardDone (coefficient : ℕ → ℕ → Float) (h w : ℕ) (v v′
 
 -- ---- backward
 
--- the rows below the triangle being finished, their products are subtracted from its rows, from the last row up
-pub record ProductsSubtracted (coefficient : ℕ → ℕ → Float) (h w : ℕ) (v v′ : List Float) : Type 0 where
-  pub size : length v′ ≡ length v
-  pub inside :
-      (r : ℕ) → r < w →
-      getD v′ r nan ≡ minusProducts (λ k. coefficient (h - 1 - k) r) (λ k. getD v (h - 1 - k) nan) (h - w) (getD v r nan)
-  pub under : (r : ℕ) → w ≤ r → getD v′ r nan ≡ getD v r nan
+-- the products of row q with x are subtracted from the rows from `from` on and before `to`
+abbrev pub RowTaken : (ℕ → ℕ → Float) → ℕ → Float → ℕ → ℕ → List Float → List Float → Type 0
+RowTaken coefficient q x from to v v′ =
+    RowsReplaced (λ r. sub binary64 (getD v r nan) (mul binary64 (coefficient q r) x)) from to v v′
+
+-- the products of the last `count` rows are subtracted, from the last row up, from the rows from `from` on and before `to`
+abbrev pub ColumnsSubtracted : (ℕ → ℕ → Float) → ℕ → ℕ → ℕ → ℕ → List Float → List Float → Type 0
+ColumnsSubtracted coefficient h count from to v v′ =
+    RowsReplaced (λ r. minusProducts (λ k. coefficient (h - 1 - k) r) (λ k. getD v (h - 1 - k) nan) count (getD v r nan)) from to v v′
+
+-- the rows below the triangle being finished, their products are subtracted from its rows
+abbrev pub ProductsSubtracted : (ℕ → ℕ → Float) → ℕ → ℕ → List Float → List Float → Type 0
+ProductsSubtracted coefficient h w v v′ = ColumnsSubtracted coefficient h (h - w) 0 w v v′
 
 -- the rows of the triangle are finished too, from the last row up; for h ≡ w there are no rows below it
 pub record BackwardDone (coefficient : ℕ → ℕ → Float) (h w : ℕ) (v v′ : List Float) : Type 0 where

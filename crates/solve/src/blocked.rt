@@ -1,14 +1,21 @@
 // Both substitutions on a blocked factor, block column by block column: h rows, w columns, each row contiguous, its part of memory beginning with it.
 ghost use mathlib.Core.Path.{_≡_};
-ghost use Prim.Native.Nat.{_≤_, _<_};
-ghost use lib.ListN.{length};
+ghost use Prim.Native.Nat.{ℕ, _+_, _-_, _≤_, _<_};
+ghost use lib.ListN.{length, getD};
+ghost use lib.Ieee.{nan};
 ghost use Rattle.shape.specs.Bounds.{maxOrder};
 ghost use Rattle.shape.specs.Places.{triangle, placeInBlock, blockedPlace};
 ghost use Rattle.calls.specs.Triangles.{height, load};
 ghost use Rattle.calls.specs.Arithmetic as Arithmetic;
-ghost use Rattle.solve.specs.Substitution.{entriesAt, BlockColumn, TriangleForward, RowsSubtracted, ForwardDone, ProductsSubtracted, BackwardDone};
+ghost use Rattle.solve.specs.Substitution.{entriesAt, BlockColumn, TriangleForward, RowsSubtracted, ForwardDone, RowTaken, ColumnsSubtracted, ProductsSubtracted, BackwardDone};
+use kernels::load8;
+use kernels::load16;
+use kernels::step16;
+use kernels::store8;
+use kernels::store16;
 use kernels::subtract_multiple;
 use kernels::subtract_rising;
+use kernels::subtract_rising8;
 use shape::Shape;
 
 // The first w rows are finished.
@@ -26,19 +33,62 @@ fn forward_triangle(h: usize, w: usize, part: &[f64], work: &mut [f64])
     }
 }
 
-// Their products are subtracted from the rows below them.
-fn forward_rows(h: usize, w: usize, part: &[f64], work: &mut [f64])
-    requires { ⌜ BlockColumn h w (now part) (now work) ⌝ }
-    ensures { λ _. ⌜ RowsSubtracted (entriesAt (placeInBlock w) (now (part .entry))) w w h (now (work .entry)) (now (work .exit)) ⌝ }
+// Where each of eight rows below the triangle begins, r being the first of them.
+fn rows8(w: usize, r: usize) -> [usize; 8]
+    requires { ⌜ w ≤ r ⌝ }
+    requires { ⌜ r + 8 ≤ maxOrder ⌝ }
+    ensures { λ places. ⌜ ((s : ℕ) → s < 8 → getD places s 0 ≡ placeInBlock w (r + s) 0) ⌝ }
 {
-    let mut at = Shape::place_in_block(w, w, 0);
-    let mut r = w;
+    let mut at = Shape::place_in_block(w, r, 0);
+    let mut places = [at; 8];
+    let mut s = 0;
+    while s < 8 {
+        places[s] = at;
+        s += 1;
+        at += w;
+    }
+    places
+}
+
+// The products of the first w rows are subtracted from eight rows below them.
+fn forward_rows8(h: usize, w: usize, r: usize, part: &[f64], work: &mut [f64])
+    requires { ⌜ BlockColumn h w (now part) (now work) ⌝ }
+    requires { ⌜ w ≤ r ⌝ }
+    requires { ⌜ r + 8 ≤ h ⌝ }
+    ensures { λ _. ⌜ RowsSubtracted (entriesAt (placeInBlock w) (now (part .entry))) w r (r + 8) (now (work .entry)) (now (work .exit)) ⌝ }
+{
+    let values = subtract_rising8(load8(work, r), part, rows8(w, r), &work[..w]);
+    store8(work, r, values);
+}
+
+// They are subtracted from the rows from `from` on, one by one.
+fn forward_last_rows(h: usize, w: usize, from: usize, part: &[f64], work: &mut [f64])
+    requires { ⌜ BlockColumn h w (now part) (now work) ⌝ }
+    requires { ⌜ w ≤ from ⌝ }
+    requires { ⌜ from ≤ h ⌝ }
+    ensures { λ _. ⌜ RowsSubtracted (entriesAt (placeInBlock w) (now (part .entry))) w from h (now (work .entry)) (now (work .exit)) ⌝ }
+{
+    let mut at = Shape::place_in_block(w, from, 0);
+    let mut r = from;
     while r < h {
         let value = subtract_rising(work[r], part, at, &work[..w]);
         work[r] = value;
         r += 1;
         at += w;
     }
+}
+
+// They are subtracted from all rows below them: eight at a time, and then the rows that eights leave.
+fn forward_rows(h: usize, w: usize, part: &[f64], work: &mut [f64])
+    requires { ⌜ BlockColumn h w (now part) (now work) ⌝ }
+    ensures { λ _. ⌜ RowsSubtracted (entriesAt (placeInBlock w) (now (part .entry))) w w h (now (work .entry)) (now (work .exit)) ⌝ }
+{
+    let mut r = w;
+    while r + 8 <= h {
+        forward_rows8(h, w, r, part, work);
+        r += 8;
+    }
+    forward_last_rows(h, w, r, part, work);
 }
 
 fn forward_block(h: usize, w: usize, part: &[f64], work: &mut [f64])
@@ -66,19 +116,65 @@ pub fn forward(shape: Shape, matrix: &[f64], work: &mut [f64])
     }
 }
 
-// The products of the rows below the first w are subtracted from these, from the last row up.
+// The products of the rows below the first w are subtracted, from the last row up, from rows s to s + 15 of these.
+fn backward_columns16(h: usize, w: usize, s: usize, part: &[f64], work: &mut [f64])
+    requires { ⌜ BlockColumn h w (now part) (now work) ⌝ }
+    requires { ⌜ s + 16 ≤ w ⌝ }
+    ensures { λ _. ⌜ ColumnsSubtracted (entriesAt (placeInBlock w) (now (part .entry))) h (h - w) s (s + 16) (now (work .entry)) (now (work .exit)) ⌝ }
+{
+    let rows = h - w;
+    let mut values = load16(work, s);
+    let mut at = Shape::place_in_block(w, h, s);
+    let mut k = 0;
+    while k < rows {
+        at -= w;
+        let next = step16(values, part, at, work[h - 1 - k]);
+        values = next;
+        k += 1;
+    }
+    store16(work, s, values);
+}
+
+// The products of row r, below the first w, are subtracted from these from row `from` on.
+fn backward_row(h: usize, w: usize, from: usize, r: usize, part: &[f64], work: &mut [f64])
+    requires { ⌜ BlockColumn h w (now part) (now work) ⌝ }
+    requires { ⌜ from ≤ w ⌝ }
+    requires { ⌜ w ≤ r ⌝ }
+    requires { ⌜ r < h ⌝ }
+    ensures { λ _. ⌜ RowTaken (entriesAt (placeInBlock w) (now (part .entry))) r (getD (now (work .entry)) r nan) from w (now (work .entry)) (now (work .exit)) ⌝ }
+{
+    let at = Shape::place_in_block(w, r, from);
+    let end = at + (w - from);
+    let x = work[r];
+    subtract_multiple(&mut work[from..w], &part[at..end], x);
+}
+
+// So are those of all rows below, from the last row up.
+fn backward_last_columns(h: usize, w: usize, from: usize, part: &[f64], work: &mut [f64])
+    requires { ⌜ BlockColumn h w (now part) (now work) ⌝ }
+    requires { ⌜ from ≤ w ⌝ }
+    ensures { λ _. ⌜ ColumnsSubtracted (entriesAt (placeInBlock w) (now (part .entry))) h (h - w) from w (now (work .entry)) (now (work .exit)) ⌝ }
+{
+    let rows = h - w;
+    let mut k = 0;
+    while k < rows {
+        backward_row(h, w, from, h - 1 - k, part, work);
+        k += 1;
+    }
+}
+
+// They are subtracted from all of the first w: sixteen at a time, and then the rows that sixteens leave.
 fn backward_rows(h: usize, w: usize, part: &[f64], work: &mut [f64])
     requires { ⌜ BlockColumn h w (now part) (now work) ⌝ }
     ensures { λ _. ⌜ ProductsSubtracted (entriesAt (placeInBlock w) (now (part .entry))) h w (now (work .entry)) (now (work .exit)) ⌝ }
 {
-    let mut end = Shape::place_in_block(w, h, 0);
-    let mut r = h;
-    while w < r {
-        r -= 1;
-        let x = work[r];
-        let at = end - w;
-        subtract_multiple(&mut work[..w], &part[at..end], x);
-        end = at;
+    let mut s = 0;
+    while s + 16 <= w {
+        backward_columns16(h, w, s, part, work);
+        s += 16;
+    }
+    if s < w {
+        backward_last_columns(h, w, s, part, work);
     }
 }
 

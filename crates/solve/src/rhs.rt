@@ -1,9 +1,8 @@
 // One right-hand side and all of them, on a factor in either layout.
 ghost use mathlib.Core.Path.{_≡_};
-ghost use Prim.Native.Nat.{_*_, _≤_};
+ghost use Prim.Native.Nat.{_*_};
 ghost use lib.ListN.{length, replicate};
 ghost use Rattle.binary64.specs.Kinds.{zero64};
-ghost use Rattle.shape.specs.Bounds.{maxRhs};
 ghost use Rattle.calls.specs.Arithmetic as Arithmetic;
 ghost use Rattle.calls.specs.Calls as Calls;
 ghost use Rattle.calls.specs.Calls.{SolvedAs};

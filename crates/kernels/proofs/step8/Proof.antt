@@ -1,9 +1,9 @@
-use borrow.Author.Needs.{needs}
-use native.Mathlib.Omega.{arith}
-use mathlib.Core.Path.{ap}
-use native.Mathlib.Nat.{le-refl}
+-- `kernels::step8` meets its contract. The invariant of its loop: the first s values are reduced. Assumes nothing.
 use Prim.Native.Nat.{_+_, _-_, _≤_}
-use mathlib.Core.Path.{_≡_}
+use native.Mathlib.Nat.{le-refl}
+use native.Mathlib.Omega.{arith}
+use mathlib.Core.Path.{ap, _≡_}
+use borrow.Author.Needs.{needs}
 use denote.Ref.{now}
 use lib.ListN.{length, getD}
 use lib.Ieee.{Float, nan, binary64, sub, mul}
@@ -12,7 +12,8 @@ use Rattle.kernels.proofs.step8.Statement.{statement}
 use Rattle.kernels.proofs.step8.Tie as tie
 
 abbrev Inv-loop : tie.InvT-loop
-Inv-loop x k y at next₀ s₀ next s = (s ≤ 8) × (length next₀ ≡ 8) × Stored nan (λ q. sub binary64 (getD next₀ q nan) (mul binary64 (getD x (getD at q 0 + k) nan) y)) next₀ s next
+Inv-loop x k y at next₀ s₀ next s =
+    (s ≤ 8) × (length next₀ ≡ 8) × Stored nan (λ q. sub binary64 (getD next₀ q nan) (mul binary64 (getD x (getD at q 0 + k) nan) y)) next₀ s next
 
 abbrev μ-loop : tie.MeasureT-loop
 μ-loop x k y at next₀ s₀ next s = 8 - s
@@ -55,12 +56,13 @@ loop-less c = omega arith
 
 loop-again : tie.Need-loop-again Inv-loop μ-loop
 loop-again c =
-    let a = c .before .before .before .args in (
+    let a = c .before .before .before .args in
+    let l = c .before .before .loop in (
       omega arith,
-      c .before .before .loop .inv .1,
-      stored-next nan _ _ (c .before .before .loop .s) (c .before .before .loop .next) _ (omega arith) (c .before .before .loop .inv .2)
-          (ap (λ (u : Float). sub binary64 u (mul binary64 (getD (now (a .x)) (getD (a .t3) (c .before .before .loop .s) 0 + a .k) nan) (a .y)))
-          (c .before .before .loop .inv .2 .rest (c .before .before .loop .s) (le-refl _))),
+      l .inv .1,
+      stored-next nan _ _ (l .s) (l .next) _ (omega arith) (l .inv .2)
+          (ap (λ (u : Float). sub binary64 u (mul binary64 (getD (now (a .x)) (getD (a .t3) (l .s) 0 + a .k) nan) (a .y)))
+          (l .inv .2 .rest (l .s) (le-refl _))),
     )
 
 returns : tie.Need-returns Inv-loop μ-loop

@@ -1,5 +1,6 @@
-use native.Mathlib.Omega.{arith}
+-- `kernels::store16` meets its contract. The invariant of its loop: the first s values are stored. Assumes nothing.
 use Prim.Native.Nat.{_-_, _≤_}
+use native.Mathlib.Omega.{arith}
 use mathlib.Core.Path.{_≡_, refl}
 use denote.Ref.{now}
 use lib.Ieee.{nan}
@@ -39,7 +40,10 @@ loop-less : tie.Need-loop-less Inv-loop μ-loop
 loop-less c = omega arith
 
 loop-again : tie.Need-loop-again Inv-loop μ-loop
-loop-again c = (omega arith, filled-next nan (c .before .before .args .at) _ (now (c .before .before .args .v)) (c .before .loop .s) (c .before .loop .v) _ (omega arith) (c .before .loop .inv .1) refl)
+loop-again c =
+    let a = c .before .before .args in
+    let l = c .before .loop in
+    (omega arith, filled-next nan (a .at) _ (now (a .v)) (l .s) (l .v) _ (omega arith) (l .inv .1) refl)
 
 same-length : tie.Need-same-length Inv-loop μ-loop
 same-length c = c .before .loop .inv .1 .size

@@ -1,5 +1,6 @@
-use native.Mathlib.Omega.{arith}
+-- `kernels::subtract_falling` meets its contract. The invariant of its loop: the products from k on are subtracted. Assumes nothing.
 use Prim.Native.Nat.{_-_, _≤_}
+use native.Mathlib.Omega.{arith}
 use mathlib.Core.Path.{_≡_, sym, ap, _∙_}
 use denote.Ref.{now}
 use lib.ListN.{length}
@@ -43,13 +44,18 @@ loop-less c = omega arith
 loop-again : tie.Need-loop-again Inv-loop μ-loop
 loop-again c =
     let a = c .before .before .before .before .args in
-    let l = c .before .before .before .loop in
-    (omega arith, falling-next (now (a .x)) (now (a .y)) (a .at) (l .k) (a .t) (l .value) (c .before .before .loop-test .taken) (l .inv .0) (l .inv .1))
+    let l = c .before .before .before .loop in (
+      omega arith,
+      falling-next (now (a .x)) (now (a .y)) (a .at) (l .k) (a .t) (l .value) (c .before .before .loop-test .taken) (l .inv .0)
+          (l .inv .1),
+    )
 
 returns : tie.Need-returns Inv-loop μ-loop
 returns c =
-    let end : length (now (c .before .before .args .y)) - c .before .loop .k ≡ length (now (c .before .before .args .y)) = omega arith in
-    c .before .loop .inv .1 ∙ ap (λ m. fallingFrom (now (c .before .before .args .x)) (c .before .before .args .at) (now (c .before .before .args .y)) m (c .before .before .args .t)) end
+    let a = c .before .before .args in
+    let l = c .before .loop in
+    let end : length (now (a .y)) - l .k ≡ length (now (a .y)) = omega arith in
+    l .inv .1 ∙ ap (λ m. fallingFrom (now (a .x)) (a .at) (now (a .y)) m (a .t)) end
 
 pub subtract-falling-spec : {M : Type 1} → statement M
 subtract-falling-spec =

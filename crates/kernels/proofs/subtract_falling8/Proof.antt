@@ -1,5 +1,6 @@
-use native.Mathlib.Omega.{arith}
+-- `kernels::subtract_falling8` meets its contract. The invariant of its loop: the products from k on are subtracted from each value. Assumes nothing.
 use Prim.Native.Nat.{ℕ, _-_, _≤_, _<_}
+use native.Mathlib.Omega.{arith}
 use mathlib.Core.Path.{_≡_, sym, ap, _∙_}
 use denote.Ref.{now}
 use lib.ListN.{length, getD}
@@ -10,18 +11,20 @@ use Rattle.kernels.proofs.subtract_falling8.Statement.{statement}
 use Rattle.kernels.proofs.subtract_falling8.Tie as tie
 
 abbrev Inv-loop : tie.InvT-loop
-Inv-loop x at y values₀ k₀ values k = (k ≤ length y) × ((s : ℕ) → s < 8 → getD values s nan ≡ fallingFrom x (getD at s 0) y (length y - k) (getD values₀ s nan))
+Inv-loop x at y values₀ k₀ values k =
+    (k ≤ length y) × ((s : ℕ) → s < 8 → getD values s nan ≡ fallingFrom x (getD at s 0) y (length y - k) (getD values₀ s nan))
 
 abbrev μ-loop : tie.MeasureT-loop
 μ-loop x at y values₀ k₀ values k = k
 
 loop-holds : tie.Need-loop-holds Inv-loop μ-loop
 loop-holds c =
-    let none : length (now (c .before .before .args .y)) - length (now (c .before .before .args .y)) ≡ 0 = omega arith in (
+    let a = c .before .before .args in
+    let none : length (now (a .y)) - length (now (a .y)) ≡ 0 = omega arith in (
       omega arith,
       λ s h.
           sym (minus-none _ _ _)
-          ∙ ap (λ m. fallingFrom (now (c .before .before .args .x)) (getD (c .before .before .args .at) s 0) (now (c .before .before .args .y)) m (getD (c .before .before .args .t) s nan)) (sym none),
+          ∙ ap (λ m. fallingFrom (now (a .x)) (getD (a .at) s 0) (now (a .y)) m (getD (a .t) s nan)) (sym none),
     )
 
 sub-k : tie.Need-sub-k Inv-loop μ-loop
@@ -53,8 +56,9 @@ loop-again c =
 returns : tie.Need-returns Inv-loop μ-loop
 returns c =
     let a = c .before .before .before .before .args in
-    let end : length (now (a .y)) - c .before .loop .k ≡ length (now (a .y)) = omega arith in
-    λ s h. c .before .loop .inv .1 s h ∙ ap (λ m. fallingFrom (now (a .x)) (getD (a .at) s 0) (now (a .y)) m (getD (a .t) s nan)) end
+    let l = c .before .loop in
+    let end : length (now (a .y)) - l .k ≡ length (now (a .y)) = omega arith in
+    λ s h. l .inv .1 s h ∙ ap (λ m. fallingFrom (now (a .x)) (getD (a .at) s 0) (now (a .y)) m (getD (a .t) s nan)) end
 
 pub subtract-falling8-spec : {M : Type 1} → statement M
 subtract-falling8-spec =

@@ -1,7 +1,8 @@
+-- `kernels::subtract_multiple` meets its contract. The invariant of its loop: the first r values are reduced. Assumes nothing.
+use Prim.Native.Nat.{_-_, _≤_}
+use native.Mathlib.Nat.{le-refl}
 use native.Mathlib.Omega.{arith}
 use mathlib.Core.Path.{ap}
-use native.Mathlib.Nat.{le-refl}
-use Prim.Native.Nat.{_-_, _≤_}
 use denote.Ref.{now}
 use lib.ListN.{length, getD}
 use lib.Ieee.{Float, nan, binary64, sub, mul}
@@ -44,8 +45,8 @@ loop-less c = omega arith
 
 loop-again : tie.Need-loop-again Inv-loop μ-loop
 loop-again c =
-    let l = c .before .before .before .loop in
-    let a = c .before .before .before .before .args in (
+    let a = c .before .before .before .before .args in
+    let l = c .before .before .before .loop in (
       omega arith,
       stored-next nan _ _ (l .r) (l .v) _ (omega arith) (l .inv .1)
           (ap (λ (u : Float). sub binary64 u (mul binary64 (getD (now (a .x)) (l .r) nan) (a .y))) (l .inv .1 .rest (l .r) (le-refl _))),

@@ -1,5 +1,6 @@
-use native.Mathlib.Omega.{arith}
+-- `kernels::subtract_rising` meets its contract. The invariant of its loop: the first k products are subtracted. Assumes nothing.
 use Prim.Native.Nat.{_-_, _≤_}
+use native.Mathlib.Omega.{arith}
 use mathlib.Core.Path.{_≡_, sym, ap, _∙_}
 use denote.Ref.{now}
 use lib.ListN.{length}
@@ -46,8 +47,10 @@ loop-again c =
 
 returns : tie.Need-returns Inv-loop μ-loop
 returns c =
-    let end : c .before .loop .k ≡ length (now (c .before .before .args .y)) = omega arith in
-    c .before .loop .inv .1 ∙ ap (λ m. risingFrom (now (c .before .before .args .x)) (c .before .before .args .at) (now (c .before .before .args .y)) m (c .before .before .args .t)) end
+    let a = c .before .before .args in
+    let l = c .before .loop in
+    let end : l .k ≡ length (now (a .y)) = omega arith in
+    l .inv .1 ∙ ap (λ m. risingFrom (now (a .x)) (a .at) (now (a .y)) m (a .t)) end
 
 pub subtract-rising-spec : {M : Type 1} → statement M
 subtract-rising-spec =

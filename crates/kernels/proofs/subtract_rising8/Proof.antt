@@ -1,5 +1,6 @@
-use native.Mathlib.Omega.{arith}
+-- `kernels::subtract_rising8` meets its contract. The invariant of its loop: the first k products are subtracted from each value. Assumes nothing.
 use Prim.Native.Nat.{ℕ, _-_, _≤_, _<_}
+use native.Mathlib.Omega.{arith}
 use mathlib.Core.Path.{_≡_, sym, ap, _∙_}
 use denote.Ref.{now}
 use lib.ListN.{length, getD}
@@ -46,8 +47,9 @@ loop-again c =
 returns : tie.Need-returns Inv-loop μ-loop
 returns c =
     let a = c .before .before .before .before .args in
-    let end : c .before .loop .k ≡ length (now (a .y)) = omega arith in
-    λ s h. c .before .loop .inv .1 s h ∙ ap (λ m. risingFrom (now (a .x)) (getD (a .at) s 0) (now (a .y)) m (getD (a .t) s nan)) end
+    let l = c .before .loop in
+    let end : l .k ≡ length (now (a .y)) = omega arith in
+    λ s h. l .inv .1 s h ∙ ap (λ m. risingFrom (now (a .x)) (getD (a .at) s 0) (now (a .y)) m (getD (a .t) s nan)) end
 
 pub subtract-rising8-spec : {M : Type 1} → statement M
 subtract-rising8-spec =

@@ -1,3 +1,4 @@
+-- `solve::blocked::backward` meets its contract. The invariant of its loop: the substitution has come to c, a block column's end. Assumes nothing.
 use Prim.Native.Nat.{_+_, _-_, _≤_, _<_}
 use native.Mathlib.Omega.{arith}
 use mathlib.Core.Path.{_≡_, refl, sym, ap, _∙_}
@@ -22,7 +23,9 @@ abbrev μ-loop : tie.MeasureT-loop
 μ-loop shape matrix work₀ n c₀ work c = c
 
 loop-holds : tie.Need-loop-holds Inv-loop μ-loop
-loop-holds c = (omega arith, refl, inl refl, backward-start (c .before .before .args .shape .order) _ (now (c .before .before .args .work)) (c .before .before .pre .1 .1 .1))
+loop-holds c =
+    let a = c .before .before .args in
+    (omega arith, refl, inl refl, backward-start (a .shape .order) _ (now (a .work)) (c .before .before .pre .1 .1 .1))
 
 sub-block-of : tie.Need-sub-block-of Inv-loop μ-loop
 sub-block-of c = omega arith
@@ -31,70 +34,131 @@ block-of-requires : tie.Need-block-of-requires Inv-loop μ-loop
 block-of-requires c κs = omega arith
 
 block-start-requires : tie.Need-block-start-requires Inv-loop μ-loop
-block-start-requires c κs = (omega arith, omega (arith, c .block-of .ensures, block-of-le (c .before .before .before .before .before .args .shape .block) (c .before .before .loop .c - 1)))
+block-start-requires c κs =
+    let a = c .before .before .before .before .before .args in
+    (omega arith, omega (arith, c .block-of .ensures, block-of-le (a .shape .block) (c .before .before .loop .c - 1)))
 
 block-width-requires : tie.Need-block-width-requires Inv-loop μ-loop
-block-width-requires c κs = omega (arith, c .before .block-of .ensures, block-of-le (c .before .before .before .before .before .before .args .shape .block) (c .before .before .before .loop .c - 1))
+block-width-requires c κs =
+    let a = c .before .before .before .before .before .before .args in
+    let l = c .before .before .before .loop in
+    omega (arith, c .before .block-of .ensures, block-of-le (a .shape .block) (l .c - 1))
 
 sub-backward-block : tie.Need-sub-backward-block Inv-loop μ-loop
-sub-backward-block c = omega (arith, c .before .before .block-of .ensures, block-of-le (c .before .before .before .before .before .before .before .args .shape .block) (c .before .before .before .before .loop .c - 1))
+sub-backward-block c =
+    let a = c .before .before .before .before .before .before .before .args in
+    let l = c .before .before .before .before .loop in
+    omega (arith, c .before .before .block-of .ensures, block-of-le (a .shape .block) (l .c - 1))
 
 mul-backward-block : tie.Need-mul-backward-block Inv-loop μ-loop
-mul-backward-block c = omega (arith, c .before .block-start .ensures, block-start-le (c .before .before .before .before .before .before .before .args .shape .order) (c .before .before .block-of .result) (omega (arith, c .before .before .block-of .ensures, block-of-le (c .before .before .before .before .before .before .before .args .shape .block) (c .before .before .before .before .loop .c - 1))), triangle-le (c .before .before .before .before .before .before .before .args .shape .order) (omega arith))
+mul-backward-block c =
+    let a = c .before .before .before .before .before .before .before .args in
+    let l = c .before .before .before .before .loop in
+    let block-of = c .before .before .block-of in
+    omega (
+      arith,
+      c .before .block-start .ensures,
+      block-start-le (a .shape .order) (block-of .result)
+          (omega (arith, block-of .ensures, block-of-le (a .shape .block) (l .c - 1))),
+      triangle-le (a .shape .order) (omega arith),
+    )
 
 sub-backward-block-2 : tie.Need-sub-backward-block-2 Inv-loop μ-loop
-sub-backward-block-2 c = omega (arith, c .before .block-start .ensures, block-start-le (c .before .before .before .before .before .before .before .args .shape .order) (c .before .before .block-of .result) (omega (arith, c .before .before .block-of .ensures, block-of-le (c .before .before .before .before .before .before .before .args .shape .block) (c .before .before .before .before .loop .c - 1))))
+sub-backward-block-2 c =
+    let a = c .before .before .before .before .before .before .before .args in
+    let l = c .before .before .before .before .loop in
+    let block-of = c .before .before .block-of in
+    omega (
+      arith,
+      c .before .block-start .ensures,
+      block-start-le (a .shape .order) (block-of .result)
+          (omega (arith, block-of .ensures, block-of-le (a .shape .block) (l .c - 1))),
+    )
 
 part-backward-block-start : tie.Need-part-backward-block-start Inv-loop μ-loop
-part-backward-block-start c = omega (arith, c .before .block-start .ensures, block-start-le (c .before .before .before .before .before .before .before .args .shape .order) (c .before .before .block-of .result) (omega (arith, c .before .before .block-of .ensures, block-of-le (c .before .before .before .before .before .before .before .args .shape .block) (c .before .before .before .before .loop .c - 1))))
+part-backward-block-start c =
+    let a = c .before .before .before .before .before .before .before .args in
+    let l = c .before .before .before .before .loop in
+    let block-of = c .before .before .block-of in
+    omega (
+      arith,
+      c .before .block-start .ensures,
+      block-start-le (a .shape .order) (block-of .result)
+          (omega (arith, block-of .ensures, block-of-le (a .shape .block) (l .c - 1))),
+    )
 
 part-backward-block-end : tie.Need-part-backward-block-end Inv-loop μ-loop
 part-backward-block-end c = omega arith
 
 mul-backward-block-2 : tie.Need-mul-backward-block-2 Inv-loop μ-loop
-mul-backward-block-2 c = omega (arith, c .before .before .before .block-of .ensures, block-of-le (c .before .before .before .before .before .before .before .before .args .shape .block) (c .before .before .before .before .before .loop .c - 1))
+mul-backward-block-2 c =
+    let a = c .before .before .before .before .before .before .before .before .args in
+    let l = c .before .before .before .before .before .loop in
+    omega (arith, c .before .before .before .block-of .ensures, block-of-le (a .shape .block) (l .c - 1))
 
 sub-backward-block-3 : tie.Need-sub-backward-block-3 Inv-loop μ-loop
-sub-backward-block-3 c = omega (arith, c .before .before .before .block-of .ensures, block-of-le (c .before .before .before .before .before .before .before .before .args .shape .block) (c .before .before .before .before .before .loop .c - 1), c .before .before .before .before .before .loop .inv .3 .size)
+sub-backward-block-3 c =
+    let a = c .before .before .before .before .before .before .before .before .args in
+    let l = c .before .before .before .before .before .loop in
+    omega (arith, c .before .before .before .block-of .ensures, block-of-le (a .shape .block) (l .c - 1), l .inv .3 .size)
 
 part-backward-block-start-2 : tie.Need-part-backward-block-start-2 Inv-loop μ-loop
-part-backward-block-start-2 c = omega (arith, c .before .before .before .block-of .ensures, block-of-le (c .before .before .before .before .before .before .before .before .args .shape .block) (c .before .before .before .before .before .loop .c - 1), c .before .before .before .before .before .loop .inv .3 .size)
+part-backward-block-start-2 c =
+    let a = c .before .before .before .before .before .before .before .before .args in
+    let l = c .before .before .before .before .before .loop in
+    omega (arith, c .before .before .before .block-of .ensures, block-of-le (a .shape .block) (l .c - 1), l .inv .3 .size)
 
 part-backward-block-end-2 : tie.Need-part-backward-block-end-2 Inv-loop μ-loop
 part-backward-block-end-2 c = omega arith
 
 backward-block-requires : tie.Need-backward-block-requires Inv-loop μ-loop
 backward-block-requires c κs =
-    let n = c .before .before .before .before .before .before .before .before .before .args .shape .order in
-    let b = c .before .before .before .before .before .before .before .before .before .args .shape .block in
-    let f = c .before .before .before .before .block-of .result in
-    let low : f < c .before .before .before .before .before .before .loop .c = omega (arith, c .before .before .before .before .block-of .ensures, block-of-le b (c .before .before .before .before .before .before .loop .c - 1)) in
+    let a = c .before .before .before .before .before .before .before .before .before .args in
+    let l = c .before .before .before .before .before .before .loop in
+    let block-of = c .before .before .before .before .block-of in
+    let block-width = c .before .before .block-width in
+    let n = a .shape .order in
+    let b = a .shape .block in
+    let f = block-of .result in
+    let low : f < l .c = omega (arith, block-of .ensures, block-of-le b (l .c - 1)) in
     let room = block-room n f (width n b f) (omega (arith, width-le n b f)) in
     record {
       order = omega arith;
-      columns = omega (arith, c .before .before .block-width .ensures, width-pos n b f (omega arith) (omega arith));
-      fits = omega (arith, c .before .before .block-width .ensures, width-le n b f);
-      values = simp (length-take, length-drop) (omega (arith, c .before .before .before .block-start .ensures, room, ap (blockStart (n - f)) (c .before .before .block-width .ensures)));
-      rows = simp (length-take, length-drop) (omega (arith, c .before .before .before .before .before .before .loop .inv .3 .size));
+      columns = omega (arith, block-width .ensures, width-pos n b f (omega arith) (omega arith));
+      fits = omega (arith, block-width .ensures, width-le n b f);
+      values = simp (length-take, length-drop) (omega
+          (arith, c .before .before .before .block-start .ensures, room, ap (blockStart (n - f)) (block-width .ensures)));
+      rows = simp (length-take, length-drop) (omega (arith, l .inv .3 .size));
     }
 
 loop-less : tie.Need-loop-less Inv-loop μ-loop
-loop-less c = omega (arith, c .before .before .before .before .before .before .before .block-of .ensures, block-of-le (c .before .before .before .before .before .before .before .before .before .before .before .before .args .shape .block) (c .before .before .before .before .before .before .before .before .before .loop .c - 1))
+loop-less c =
+    let a = c .before .before .before .before .before .before .before .before .before .before .before .before .args in
+    let l = c .before .before .before .before .before .before .before .before .before .loop in
+    omega (arith, c .before .before .before .before .before .before .before .block-of .ensures, block-of-le (a .shape .block) (l .c - 1))
 
 loop-again : tie.Need-loop-again Inv-loop μ-loop
 loop-again c =
-    let n = c .before .before .before .before .before .before .before .before .before .before .before .before .args .shape .order in
-    let b = c .before .before .before .before .before .before .before .before .before .before .before .before .args .shape .block in
-    let f = c .before .before .before .before .before .before .before .block-of .result in
-    let low : f < c .before .before .before .before .before .before .before .before .before .loop .c = omega (arith, c .before .before .before .before .before .before .before .block-of .ensures, block-of-le b (c .before .before .before .before .before .before .before .before .before .loop .c - 1)) in
-    let whole : f + c .before .before .before .before .before .block-width .result ≡ c .before .before .before .before .before .before .before .before .before .loop .c =
-    ap (λ w. f + w) (c .before .before .before .before .before .block-width .ensures) ∙ ap (λ q. q + width n b q) (c .before .before .before .before .before .before .before .block-of .ensures) ∙ last-block n b (c .before .before .before .before .before .before .before .before .before .loop .c) (omega arith) (omega arith) (omega arith) (c .before .before .before .before .before .before .before .before .before .loop .inv .2) in
-    let first : blockOf b f ≡ f = ap (blockOf b) (c .before .before .before .before .before .before .before .block-of .ensures) ∙ block-of-block b (c .before .before .before .before .before .before .before .before .before .loop .c - 1) (omega arith) ∙ sym (c .before .before .before .before .before .before .before .block-of .ensures) in (
+    let a = c .before .before .before .before .before .before .before .before .before .before .before .before .args in
+    let l = c .before .before .before .before .before .before .before .before .before .loop in
+    let block-of = c .before .before .before .before .before .before .before .block-of in
+    let block-width = c .before .before .before .before .before .block-width in
+    let block-start = c .before .before .before .before .before .before .block-start in
+    let backward-block = c .before .before .backward-block in
+    let n = a .shape .order in
+    let b = a .shape .block in
+    let f = block-of .result in
+    let low : f < l .c = omega (arith, block-of .ensures, block-of-le b (l .c - 1)) in
+    let whole : f + block-width .result ≡ l .c =
+    ap (λ w. f + w) (block-width .ensures) ∙ ap (λ q. q + width n b q) (block-of .ensures) ∙ last-block n b (l .c) (omega arith) (omega arith)
+    (omega arith) (l .inv .2) in
+    let first : blockOf b f ≡ f = ap (blockOf b) (block-of .ensures) ∙ block-of-block b (l .c - 1) (omega arith) ∙ sym (block-of .ensures) in (
       omega arith,
-      c .before .before .before .before .before .before .before .before .before .loop .inv .1,
+      l .inv .1,
       inr first,
-      block-backward n b f (c .before .before .before .before .before .before .block-start .result) (c .before .before .before .before .before .block-width .result) (now (c .before .before .before .before .before .before .before .before .before .before .before .before .args .matrix)) (now (c .before .before .before .before .before .before .before .before .before .before .before .before .args .work)) (c .before .before .before .before .before .before .before .before .before .loop .work) (c .before .before .backward-block .last .1 .1 .1 .0)
-          (omega arith) (omega arith) first (c .before .before .before .before .before .before .block-start .ensures) (c .before .before .before .before .before .block-width .ensures) (omega arith) (rw whole (c .before .before .before .before .before .before .before .before .before .loop .inv .3)) (c .before .before .backward-block .ensures),
+      block-backward n b f (block-start .result) (block-width .result) (now (a .matrix)) (now (a .work)) (l .work) (backward-block .last .1 .1 .1 .0)
+          (omega arith) (omega arith) first (block-start .ensures) (block-width .ensures) (omega arith) (rw whole (l .inv .3))
+          (backward-block .ensures),
     )
 
 same-length : tie.Need-same-length Inv-loop μ-loop
@@ -102,8 +166,10 @@ same-length c = c .before .loop .inv .3 .size ∙ sym (c .before .before .before
 
 returns : tie.Need-returns Inv-loop μ-loop
 returns c =
-    let end : c .before .loop .c ≡ 0 = omega arith in
-    backward-end (c .before .before .before .before .args .shape .order) _ (now (c .before .before .before .before .args .work)) (c .before .loop .work) (rw end at (c .before .loop .inv .3))
+    let a = c .before .before .before .before .args in
+    let l = c .before .loop in
+    let end : l .c ≡ 0 = omega arith in
+    backward-end (a .shape .order) _ (now (a .work)) (l .work) (rw end at (l .inv .3))
 
 pub backward-spec : {M : Type 1} → statement M
 backward-spec =

@@ -1,6 +1,7 @@
+-- `solve::blocked::backward_block` meets its contract: the rows below the triangle, and then the triangle. Assumes nothing.
+use borrow.Author.Needs.{needs}
 use denote.Ref.{now}
 use Rattle.solve.proofs.Substitution.{backward-done}
-use borrow.Author.Needs.{needs}
 use Rattle.solve.proofs.blocked.backward_block.Statement.{statement}
 use Rattle.solve.proofs.blocked.backward_block.Tie as tie
 
@@ -14,7 +15,11 @@ same-length : tie.Need-same-length
 same-length c = search needs
 
 returns : tie.Need-returns
-returns c = backward-done _ (c .before .before .before .before .before .before .before .before .before .before .args .h) (c .before .before .before .before .before .before .before .before .before .before .args .w) (now (c .before .before .before .before .before .before .before .before .before .before .args .work)) _ _ (c .before .before .before .before .before .before .before .before .before .before .pre .fits) (c .before .before .before .before .before .before .backward-rows .ensures) (c .before .before .backward-triangle .ensures)
+returns c =
+    let a = c .before .before .before .before .before .before .before .before .before .before .args in
+    let p = c .before .before .before .before .before .before .before .before .before .before .pre in
+    backward-done _ (a .h) (a .w) (now (a .work)) _ _ (p .fits) (c .before .before .before .before .before .before .backward-rows .ensures)
+    (c .before .before .backward-triangle .ensures)
 
 pub backward-block-spec : {M : Type 1} → statement M
 backward-block-spec =

@@ -1,14 +1,15 @@
+-- `solve::blocked::backward_triangle` meets its contract. The invariant of its loop: the rows from r on are finished, their products are taken from
+-- those before r, and `at` is where row r begins. Assumes nothing.
+use Prim.Native.Nat.{_≤_}
 use native.Mathlib.Omega.{arith}
-use lib.ListN.{length-set}
-use Rattle.solve.proofs.BlockColumns.{before-inside}
-use Prim.Native.Nat.{_-_, _≤_}
-use mathlib.Core.Path.{_≡_}
+use mathlib.Core.Path.{_≡_, refl}
 use denote.Ref.{now}
-use lib.ListN.{length-take, length-drop}
+use lib.ListN.{length-set, length-take, length-drop}
 use Rattle.shape.specs.Places.{placeInBlock}
 use Rattle.solve.specs.Substitution.{entriesAt}
+use Rattle.solve.proofs.BlockPlaces.{before-inside}
+use Rattle.solve.proofs.BlockColumns.{row-inside-up}
 use Rattle.solve.proofs.Triangles.{TakenFrom, taken-none, taken-all}
-use Rattle.solve.proofs.BlockColumns.{room-inside, row-inside-up}
 use Rattle.solve.proofs.blocked.backward_triangle.Statement.{statement}
 use Rattle.solve.proofs.blocked.backward_triangle.Tie as tie
 
@@ -22,16 +23,24 @@ place-in-block-requires : tie.Need-place-in-block-requires Inv-loop μ-loop
 place-in-block-requires c κs = omega arith
 
 loop-holds : tie.Need-loop-holds Inv-loop μ-loop
-loop-holds c = (omega arith, c .place-in-block .ensures, taken-none _ (c .before .before .before .args .w) (now (c .before .before .before .args .work)))
+loop-holds c =
+    let a = c .before .before .before .args in
+    (omega arith, c .place-in-block .ensures, taken-none _ (a .w) (now (a .work)))
 
 sub-at : tie.Need-sub-at Inv-loop μ-loop
-sub-at c = omega (arith, before-inside (c .before .before .before .before .before .args .w) (c .before .loop .r) (c .before .loop .at) (omega arith) (omega arith) (c .before .loop .inv .1))
+sub-at c =
+    let a = c .before .before .before .before .before .args in
+    let l = c .before .loop in
+    omega (arith, before-inside (a .h) (a .w) (l .r) (l .at) (omega arith) (omega arith) (omega arith) (l .inv .1))
 
 sub-r : tie.Need-sub-r Inv-loop μ-loop
 sub-r c = omega arith
 
 add-end : tie.Need-add-end Inv-loop μ-loop
-add-end c = omega (arith, before-inside (c .before .before .before .before .before .args .w) (c .before .loop .r) (c .before .loop .at) (omega arith) (omega arith) (c .before .loop .inv .1), room-inside (c .before .before .before .before .before .args .h) (c .before .before .before .before .before .args .w) (c .before .loop .r - 1) (omega arith) (omega arith))
+add-end c =
+    let a = c .before .before .before .before .before .args in
+    let l = c .before .loop in
+    omega (arith, before-inside (a .h) (a .w) (l .r) (l .at) (omega arith) (omega arith) (omega arith) (l .inv .1))
 
 mul-x : tie.Need-mul-x Inv-loop μ-loop
 mul-x c = omega arith
@@ -40,10 +49,16 @@ slice-read-x : tie.Need-slice-read-x Inv-loop μ-loop
 slice-read-x c = omega arith
 
 mul-x-2 : tie.Need-mul-x-2 Inv-loop μ-loop
-mul-x-2 c = omega (arith, before-inside (c .before .before .before .before .before .before .args .w) (c .before .before .loop .r) (c .before .before .loop .at) (omega arith) (omega arith) (c .before .before .loop .inv .1), room-inside (c .before .before .before .before .before .before .args .h) (c .before .before .before .before .before .before .args .w) (c .before .before .loop .r - 1) (omega arith) (omega arith))
+mul-x-2 c =
+    let a = c .before .before .before .before .before .before .args in
+    let l = c .before .before .loop in
+    omega (arith, before-inside (a .h) (a .w) (l .r) (l .at) (omega arith) (omega arith) (omega arith) (l .inv .1))
 
 shared-slice-read-x : tie.Need-shared-slice-read-x Inv-loop μ-loop
-shared-slice-read-x c = omega (arith, before-inside (c .before .before .before .before .before .before .before .args .w) (c .before .before .before .loop .r) (c .before .before .before .loop .at) (omega arith) (omega arith) (c .before .before .before .loop .inv .1), room-inside (c .before .before .before .before .before .before .before .args .h) (c .before .before .before .before .before .before .before .args .w) (c .before .before .before .loop .r - 1) (omega arith) (omega arith))
+shared-slice-read-x c =
+    let a = c .before .before .before .before .before .before .before .args in
+    let l = c .before .before .before .loop in
+    omega (arith, before-inside (a .h) (a .w) (l .r) (l .at) (omega arith) (omega arith) (omega arith) (l .inv .1))
 
 mul-work : tie.Need-mul-work Inv-loop μ-loop
 mul-work c = omega arith
@@ -59,7 +74,10 @@ slice-aggregate-subtract-multiple : tie.Need-slice-aggregate-subtract-multiple I
 slice-aggregate-subtract-multiple c = simp (length-take, length-set) (omega arith)
 
 mul-subtract-multiple : tie.Need-mul-subtract-multiple Inv-loop μ-loop
-mul-subtract-multiple c = omega (arith, before-inside (c .before .before .before .before .before .before .before .before .args .w) (c .before .before .before .before .loop .r) (c .before .before .before .before .loop .at) (omega arith) (omega arith) (c .before .before .before .before .loop .inv .1), room-inside (c .before .before .before .before .before .before .before .before .args .h) (c .before .before .before .before .before .before .before .before .args .w) (c .before .before .before .before .loop .r - 1) (omega arith) (omega arith))
+mul-subtract-multiple c =
+    let a = c .before .before .before .before .before .before .before .before .args in
+    let l = c .before .before .before .before .loop in
+    omega (arith, before-inside (a .h) (a .w) (l .r) (l .at) (omega arith) (omega arith) (omega arith) (l .inv .1))
 
 sub-subtract-multiple : tie.Need-sub-subtract-multiple Inv-loop μ-loop
 sub-subtract-multiple c = omega arith
@@ -68,18 +86,29 @@ part-subtract-multiple-start : tie.Need-part-subtract-multiple-start Inv-loop μ
 part-subtract-multiple-start c = omega arith
 
 part-subtract-multiple-end : tie.Need-part-subtract-multiple-end Inv-loop μ-loop
-part-subtract-multiple-end c = omega (arith, before-inside (c .before .before .before .before .before .before .before .before .args .w) (c .before .before .before .before .loop .r) (c .before .before .before .before .loop .at) (omega arith) (omega arith) (c .before .before .before .before .loop .inv .1), room-inside (c .before .before .before .before .before .before .before .before .args .h) (c .before .before .before .before .before .before .before .before .args .w) (c .before .before .before .before .loop .r - 1) (omega arith) (omega arith))
+part-subtract-multiple-end c =
+    let a = c .before .before .before .before .before .before .before .before .args in
+    let l = c .before .before .before .before .loop in
+    omega (arith, before-inside (a .h) (a .w) (l .r) (l .at) (omega arith) (omega arith) (omega arith) (l .inv .1))
 
 subtract-multiple-requires : tie.Need-subtract-multiple-requires Inv-loop μ-loop
-subtract-multiple-requires c κs = simp (length-take, length-drop, length-set) (omega (arith, before-inside (c .before .before .before .before .before .before .before .before .before .args .w) (c .before .before .before .before .before .loop .r) (c .before .before .before .before .before .loop .at) (omega arith) (omega arith) (c .before .before .before .before .before .loop .inv .1), room-inside (c .before .before .before .before .before .before .before .before .before .args .h) (c .before .before .before .before .before .before .before .before .before .args .w) (c .before .before .before .before .before .loop .r - 1) (omega arith) (omega arith)))
+subtract-multiple-requires c κs =
+    let a = c .before .before .before .before .before .before .before .before .before .args in
+    let l = c .before .before .before .before .before .loop in
+    simp (length-take, length-drop, length-set)
+    (omega (arith, before-inside (a .h) (a .w) (l .r) (l .at) (omega arith) (omega arith) (omega arith) (l .inv .1)))
 
 loop-less : tie.Need-loop-less Inv-loop μ-loop
 loop-less c = omega arith
 
 loop-again : tie.Need-loop-again Inv-loop μ-loop
 loop-again c =
-    let turn = row-inside-up (c .before .before .before .before .before .before .before .before .before .before .before .before .args .h) (c .before .before .before .before .before .before .before .before .before .before .before .before .args .w) (now (c .before .before .before .before .before .before .before .before .before .before .before .before .args .part)) (now (c .before .before .before .before .before .before .before .before .before .before .before .before .args .work)) (c .before .before .before .before .before .before .before .before .loop .work) (c .before .before .subtract-multiple .last .0) (omega arith) (omega arith)
-    (c .before .before .before .before .before .before .before .before .loop .r) (c .before .before .before .before .before .before .before .before .loop .at) (c .before .before .before .before .before .before .before .loop-test .taken) (c .before .before .before .before .before .before .before .before .loop .inv .0) (c .before .before .before .before .before .before .before .before .loop .inv .1) (c .before .before .before .before .before .before .before .before .loop .inv .2) (c .before .before .subtract-multiple .ensures) in
+    let a = c .before .before .before .before .before .before .before .before .before .before .before .before .args in
+    let l = c .before .before .before .before .before .before .before .before .loop in
+    let subtract-multiple = c .before .before .subtract-multiple in
+    let test = c .before .before .before .before .before .before .before .loop-test .taken in
+    let turn = row-inside-up (a .h) (a .w) (l .r) (l .at) (now (a .part)) (now (a .work)) (l .work) (subtract-multiple .last .0) _
+    (omega arith) (omega arith) test (l .inv .0) (l .inv .1) refl (l .inv .2) (subtract-multiple .ensures) in
     (omega arith, turn .0, turn .1)
 
 same-length : tie.Need-same-length Inv-loop μ-loop
@@ -87,8 +116,10 @@ same-length c = c .before .loop .inv .2 .size
 
 returns : tie.Need-returns Inv-loop μ-loop
 returns c =
-    let end : c .before .loop .r ≡ 0 = omega arith in
-    taken-all _ (c .before .before .before .before .before .args .w) (now (c .before .before .before .before .before .args .work)) (c .before .loop .work) (rw end at (c .before .loop .inv .2))
+    let a = c .before .before .before .before .before .args in
+    let l = c .before .loop in
+    let end : l .r ≡ 0 = omega arith in
+    taken-all _ (a .w) (now (a .work)) (l .work) (rw end at (l .inv .2))
 
 pub backward-triangle-spec : {M : Type 1} → statement M
 backward-triangle-spec =

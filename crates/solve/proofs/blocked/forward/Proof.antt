@@ -1,11 +1,11 @@
-use Rattle.shape.proofs.Bounds.{block-start-le}
-use native.Mathlib.Omega.{arith}
+-- `solve::blocked::forward` meets its contract. The invariant of its loop: the substitution has come to c, a block column's first. Assumes nothing.
 use Prim.Native.Nat.{_+_, _-_, _≤_, _<_}
+use native.Mathlib.Omega.{arith}
 use mathlib.Core.Path.{_≡_, refl, sym, ap, _∙_}
 use denote.Ref.{now}
 use lib.ListN.{length-take, length-drop}
 use Rattle.shape.specs.Places.{blockedPlace, blockOf, blockStart, width}
-use Rattle.shape.proofs.Bounds.{triangle-le}
+use Rattle.shape.proofs.Bounds.{block-start-le, triangle-le}
 use Rattle.shape.proofs.Blocks.{block-of-le, width-pos, width-le}
 use Rattle.calls.specs.Triangles.{height, load}
 use Rattle.solve.proofs.Substitution.{ForwardTo, forward-start, forward-end}
@@ -22,7 +22,14 @@ abbrev μ-loop : tie.MeasureT-loop
 μ-loop shape matrix work₀ n c₀ work c = shape .order - c
 
 loop-holds : tie.Need-loop-holds Inv-loop μ-loop
-loop-holds c = (omega arith, refl, λ p. omega (arith, block-of-le (c .before .before .args .shape .block) 0), forward-start (c .before .before .args .shape .order) _ (now (c .before .before .args .work)) (c .before .before .pre .1 .1 .1))
+loop-holds c =
+    let a = c .before .before .args in (
+      omega arith,
+      refl,
+      λ p. omega (arith, block-of-le (a .shape .block) 0),
+      forward-start (a .shape .order) _ (now (a .work))
+          (c .before .before .pre .1 .1 .1),
+    )
 
 block-start-requires : tie.Need-block-start-requires Inv-loop μ-loop
 block-start-requires c κs = omega arith
@@ -34,13 +41,22 @@ sub-forward-block : tie.Need-sub-forward-block Inv-loop μ-loop
 sub-forward-block c = omega arith
 
 mul-forward-block : tie.Need-mul-forward-block Inv-loop μ-loop
-mul-forward-block c = omega (arith, c .before .block-start .ensures, block-start-le (c .before .before .before .before .before .before .args .shape .order) (c .before .before .before .loop .c) (omega arith), triangle-le (c .before .before .before .before .before .before .args .shape .order) (omega arith))
+mul-forward-block c =
+    let a = c .before .before .before .before .before .before .args in
+    let l = c .before .before .before .loop in
+    omega (arith, c .before .block-start .ensures, block-start-le (a .shape .order) (l .c) (omega arith), triangle-le (a .shape .order) (omega arith))
 
 sub-forward-block-2 : tie.Need-sub-forward-block-2 Inv-loop μ-loop
-sub-forward-block-2 c = omega (arith, c .before .block-start .ensures, block-start-le (c .before .before .before .before .before .before .args .shape .order) (c .before .before .before .loop .c) (omega arith))
+sub-forward-block-2 c =
+    let a = c .before .before .before .before .before .before .args in
+    let l = c .before .before .before .loop in
+    omega (arith, c .before .block-start .ensures, block-start-le (a .shape .order) (l .c) (omega arith))
 
 part-forward-block-start : tie.Need-part-forward-block-start Inv-loop μ-loop
-part-forward-block-start c = omega (arith, c .before .block-start .ensures, block-start-le (c .before .before .before .before .before .before .args .shape .order) (c .before .before .before .loop .c) (omega arith))
+part-forward-block-start c =
+    let a = c .before .before .before .before .before .before .args in
+    let l = c .before .before .before .loop in
+    omega (arith, c .before .block-start .ensures, block-start-le (a .shape .order) (l .c) (omega arith))
 
 part-forward-block-end : tie.Need-part-forward-block-end Inv-loop μ-loop
 part-forward-block-end c = omega arith
@@ -59,34 +75,56 @@ part-forward-block-end-2 c = omega arith
 
 forward-block-requires : tie.Need-forward-block-requires Inv-loop μ-loop
 forward-block-requires c κs =
-    let n = c .before .before .before .before .before .before .before .before .args .shape .order in
-    let b = c .before .before .before .before .before .before .before .before .args .shape .block in
-    let room = block-room n (c .before .before .before .before .before .loop .c) (width n b (c .before .before .before .before .before .loop .c)) (omega (arith, width-le n b (c .before .before .before .before .before .loop .c))) in
+    let a = c .before .before .before .before .before .before .before .before .args in
+    let l = c .before .before .before .before .before .loop in
+    let block-width = c .before .before .block-width in
+    let n = a .shape .order in
+    let b = a .shape .block in
+    let room = block-room n (l .c) (width n b (l .c)) (omega (arith, width-le n b (l .c))) in
     record {
       order = omega arith;
-      columns = omega (arith, c .before .before .block-width .ensures, width-pos n b (c .before .before .before .before .before .loop .c) (omega arith) (omega arith));
-      fits = omega (arith, c .before .before .block-width .ensures, width-le n b (c .before .before .before .before .before .loop .c));
-      values = simp (length-take, length-drop) (omega (arith, c .before .before .before .block-start .ensures, room, ap (blockStart (n - c .before .before .before .before .before .loop .c)) (c .before .before .block-width .ensures)));
-      rows = simp (length-take, length-drop) (omega (arith, c .before .before .before .before .before .loop .inv .3 .size));
+      columns = omega (arith, block-width .ensures, width-pos n b (l .c) (omega arith) (omega arith));
+      fits = omega (arith, block-width .ensures, width-le n b (l .c));
+      values = simp (length-take, length-drop) (omega
+          (arith, c .before .before .before .block-start .ensures, room, ap (blockStart (n - l .c)) (block-width .ensures)));
+      rows = simp (length-take, length-drop) (omega (arith, l .inv .3 .size));
     }
 
 add-c : tie.Need-add-c Inv-loop μ-loop
-add-c c = omega (arith, c .before .before .before .before .before .block-width .ensures, width-le (c .before .before .before .before .before .before .before .before .before .before .before .args .shape .order) (c .before .before .before .before .before .before .before .before .before .before .before .args .shape .block) (c .before .before .before .before .before .before .before .before .loop .c))
+add-c c =
+    let a = c .before .before .before .before .before .before .before .before .before .before .before .args in
+    let l = c .before .before .before .before .before .before .before .before .loop in
+    omega (arith, c .before .before .before .before .before .block-width .ensures, width-le (a .shape .order) (a .shape .block) (l .c))
 
 loop-less : tie.Need-loop-less Inv-loop μ-loop
-loop-less c = omega (arith, c .before .before .before .before .before .block-width .ensures, width-le (c .before .before .before .before .before .before .before .before .before .before .before .args .shape .order) (c .before .before .before .before .before .before .before .before .before .before .before .args .shape .block) (c .before .before .before .before .before .before .before .before .loop .c), width-pos (c .before .before .before .before .before .before .before .before .before .before .before .args .shape .order) (c .before .before .before .before .before .before .before .before .before .before .before .args .shape .block) (c .before .before .before .before .before .before .before .before .loop .c) (omega arith) (omega arith))
+loop-less c =
+    let a = c .before .before .before .before .before .before .before .before .before .before .before .args in
+    let l = c .before .before .before .before .before .before .before .before .loop in
+    omega (
+      arith,
+      c .before .before .before .before .before .block-width .ensures,
+      width-le (a .shape .order) (a .shape .block) (l .c),
+      width-pos
+          (a .shape .order) (a .shape .block) (l .c) (omega arith) (omega arith),
+    )
 
 loop-again : tie.Need-loop-again Inv-loop μ-loop
 loop-again c =
-    let n = c .before .before .before .before .before .before .before .before .before .before .before .args .shape .order in
-    let b = c .before .before .before .before .before .before .before .before .before .before .before .args .shape .block in
-    let fits : c .before .before .before .before .before .before .before .before .loop .c + c .before .before .before .before .before .block-width .result ≤ n = omega (arith, c .before .before .before .before .before .block-width .ensures, width-le n b (c .before .before .before .before .before .before .before .before .loop .c)) in
-    let first = c .before .before .before .before .before .before .before .before .loop .inv .2 (omega arith) in (
+    let a = c .before .before .before .before .before .before .before .before .before .before .before .args in
+    let l = c .before .before .before .before .before .before .before .before .loop in
+    let block-width = c .before .before .before .before .before .block-width in
+    let block-start = c .before .before .before .before .before .before .block-start in
+    let forward-block = c .before .before .forward-block in
+    let n = a .shape .order in
+    let b = a .shape .block in
+    let fits : l .c + block-width .result ≤ n = omega (arith, block-width .ensures, width-le n b (l .c)) in
+    let first = l .inv .2 (omega arith) in (
       fits,
-      c .before .before .before .before .before .before .before .before .loop .inv .1,
-      λ p. rw (c .before .before .before .before .before .block-width .ensures) (first-next n b (c .before .before .before .before .before .before .before .before .loop .c) (omega arith) first (rw (c .before .before .before .before .before .block-width .ensures) at p)),
-      block-forward n b (c .before .before .before .before .before .before .before .before .loop .c) (c .before .before .before .before .before .before .block-start .result) (c .before .before .before .before .before .block-width .result) (now (c .before .before .before .before .before .before .before .before .before .before .before .args .matrix)) (now (c .before .before .before .before .before .before .before .before .before .before .before .args .work)) (c .before .before .before .before .before .before .before .before .loop .work) (c .before .before .forward-block .last .1 .1 .1 .0)
-          (omega arith) (omega arith) first (c .before .before .before .before .before .before .block-start .ensures) (c .before .before .before .before .before .block-width .ensures) fits (c .before .before .before .before .before .before .before .before .loop .inv .3) (c .before .before .forward-block .ensures),
+      l .inv .1,
+      λ p. rw (block-width .ensures) (first-next n b (l .c) (omega arith) first (rw (block-width .ensures) at p)),
+      block-forward n b (l .c) (block-start .result) (block-width .result) (now (a .matrix)) (now (a .work)) (l .work)
+          (forward-block .last .1 .1 .1 .0)
+          (omega arith) (omega arith) first (block-start .ensures) (block-width .ensures) fits (l .inv .3) (forward-block .ensures),
     )
 
 same-length : tie.Need-same-length Inv-loop μ-loop
@@ -94,8 +132,10 @@ same-length c = c .before .loop .inv .3 .size ∙ sym (c .before .before .before
 
 returns : tie.Need-returns Inv-loop μ-loop
 returns c =
-    let end : c .before .loop .c ≡ c .before .before .before .before .args .shape .order = omega arith in
-    forward-end (c .before .before .before .before .args .shape .order) _ (now (c .before .before .before .before .args .work)) (c .before .loop .work) (rw end at (c .before .loop .inv .3))
+    let a = c .before .before .before .before .args in
+    let l = c .before .loop in
+    let end : l .c ≡ a .shape .order = omega arith in
+    forward-end (a .shape .order) _ (now (a .work)) (l .work) (rw end at (l .inv .3))
 
 pub forward-spec : {M : Type 1} → statement M
 forward-spec =

@@ -1,6 +1,7 @@
+-- `solve::blocked::forward_block` meets its contract: the triangle, and then the rows below it. Assumes nothing.
+use borrow.Author.Needs.{needs}
 use denote.Ref.{now}
 use Rattle.solve.proofs.Substitution.{forward-done}
-use borrow.Author.Needs.{needs}
 use Rattle.solve.proofs.blocked.forward_block.Statement.{statement}
 use Rattle.solve.proofs.blocked.forward_block.Tie as tie
 
@@ -14,7 +15,10 @@ same-length : tie.Need-same-length
 same-length c = search needs
 
 returns : tie.Need-returns
-returns c = forward-done _ (c .before .before .before .before .before .before .before .before .before .before .args .h) (c .before .before .before .before .before .before .before .before .before .before .args .w) (now (c .before .before .before .before .before .before .before .before .before .before .args .work)) _ _ (c .before .before .before .before .before .before .forward-triangle .ensures) (c .before .before .forward-rows .ensures)
+returns c =
+    let a = c .before .before .before .before .before .before .before .before .before .before .args in
+    forward-done _ (a .h) (a .w) (now (a .work)) _ _ (c .before .before .before .before .before .before .forward-triangle .ensures)
+    (c .before .before .forward-rows .ensures)
 
 pub forward-block-spec : {M : Type 1} → statement M
 forward-block-spec =

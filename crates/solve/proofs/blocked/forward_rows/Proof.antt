@@ -1,75 +1,66 @@
+-- `solve::blocked::forward_rows` meets its contract. The invariant of its loop: the products are subtracted from the rows before r. Assumes nothing.
+use Prim.Native.Nat.{_+_, _-_, _≤_}
 use native.Mathlib.Omega.{arith}
-use Prim.Native.Nat.{_-_, _≤_}
-use mathlib.Core.Path.{_≡_}
+use mathlib.Core.Path.{_∙_}
 use denote.Ref.{now}
-use lib.ListN.{length-take}
 use Rattle.shape.specs.Places.{placeInBlock}
-use Rattle.shape.proofs.Rows.{place-in-block-next-row-under}
 use Rattle.solve.specs.Substitution.{entriesAt, RowsSubtracted}
-use Rattle.solve.proofs.Substitution.{rows-none}
-use Rattle.solve.proofs.BlockColumns.{room-under, values-le, under-row}
+use Rattle.solve.proofs.Rows.{replaced-none, rows-join}
+use Rattle.solve.proofs.BlockColumns.{rows-beside}
 use Rattle.solve.proofs.blocked.forward_rows.Statement.{statement}
 use Rattle.solve.proofs.blocked.forward_rows.Tie as tie
 
 abbrev Inv-loop : tie.InvT-loop
-Inv-loop h w part work₀ at₀ r₀ work at r = (w ≤ r) × (r ≤ h) × (at ≡ placeInBlock w r 0) × RowsSubtracted (entriesAt (placeInBlock w) part) w w r work₀ work
+Inv-loop h w part work₀ r₀ work r = (w ≤ r) × (r ≤ h) × RowsSubtracted (entriesAt (placeInBlock w) part) w w r work₀ work
 
 abbrev μ-loop : tie.MeasureT-loop
-μ-loop h w part work₀ at₀ r₀ work at r = h - r
-
-place-in-block-requires : tie.Need-place-in-block-requires Inv-loop μ-loop
-place-in-block-requires c κs = omega arith
+μ-loop h w part work₀ r₀ work r = h - r
 
 loop-holds : tie.Need-loop-holds Inv-loop μ-loop
-loop-holds c = (omega arith, omega arith, c .place-in-block .ensures, rows-none _ (c .before .before .before .args .w) (c .before .before .before .args .w) (now (c .before .before .before .args .work)))
+loop-holds c = (omega arith, omega arith, replaced-none _ (c .before .before .args .w) (now (c .before .before .args .work)))
 
-mul-subtract-rising : tie.Need-mul-subtract-rising Inv-loop μ-loop
-mul-subtract-rising c = omega arith
+add-loop : tie.Need-add-loop Inv-loop μ-loop
+add-loop c = omega arith
 
-slice-read-subtract-rising : tie.Need-slice-read-subtract-rising Inv-loop μ-loop
-slice-read-subtract-rising c = omega arith
-
-slice-reshare-prefix-subtract-rising :
-    tie.Need-slice-reshare-prefix-subtract-rising Inv-loop μ-loop
-slice-reshare-prefix-subtract-rising c = omega arith
-
-slice-aggregate-subtract-rising : tie.Need-slice-aggregate-subtract-rising Inv-loop μ-loop
-slice-aggregate-subtract-rising c = simp length-take (omega arith)
-
-subtract-rising-requires : tie.Need-subtract-rising-requires Inv-loop μ-loop
-subtract-rising-requires c κs = simp length-take (omega (arith, room-under (c .before .before .before .before .before .before .before .args .h) (c .before .before .before .before .before .before .before .args .w) (c .before .before .before .loop .r) (omega arith) (omega arith) (omega arith) (omega arith)))
-
-mul-work : tie.Need-mul-work Inv-loop μ-loop
-mul-work c = omega arith
-
-slice-write-work : tie.Need-slice-write-work Inv-loop μ-loop
-slice-write-work c = omega arith
+forward-rows8-requires : tie.Need-forward-rows8-requires Inv-loop μ-loop
+forward-rows8-requires c κs =
+    let p = c .before .before .before .before .before .pre in
+    let a = c .before .before .before .before .before .args in
+    let l = c .before .before .loop in
+    (rows-beside (a .h) (a .w) (now (a .part)) (now (a .work)) (l .work) p (l .inv .2 .size), (omega arith, omega arith))
 
 add-r : tie.Need-add-r Inv-loop μ-loop
 add-r c = omega arith
-
-add-at : tie.Need-add-at Inv-loop μ-loop
-add-at c = omega (arith, room-under (c .before .before .before .before .before .before .before .before .args .h) (c .before .before .before .before .before .before .before .before .args .w) (c .before .before .before .before .loop .r) (omega arith) (omega arith) (omega arith) (omega arith), values-le (c .before .before .before .before .before .before .before .before .args .h) (c .before .before .before .before .before .before .before .before .args .w) (omega arith) (omega arith))
 
 loop-less : tie.Need-loop-less Inv-loop μ-loop
 loop-less c = omega arith
 
 loop-again : tie.Need-loop-again Inv-loop μ-loop
-loop-again c = (
-  omega arith,
-  omega arith,
-  omega (arith, place-in-block-next-row-under (c .before .before .before .before .before .before .before .before .args .w) (c .before .before .before .before .loop .r) 0 (c .before .before .before .before .loop .inv .0)),
-  under-row (c .before .before .before .before .before .before .before .before .args .h) (c .before .before .before .before .before .before .before .before .args .w) (now (c .before .before .before .before .before .before .before .before .args .part)) (now (c .before .before .before .before .before .before .before .before .args .work)) (c .before .before .before .before .loop .work) (omega arith) (omega arith) (c .before .before .before .before .loop .r) (c .before .before .before .before .loop .at) (c .subtract-rising .result)
-      (c .before .before .before .before .loop .inv .0) (c .before .before .before .loop-test .taken) (c .before .before .before .before .loop .inv .2) (c .subtract-rising .ensures) (c .before .before .before .before .loop .inv .3),
-)
+loop-again c =
+    let a = c .before .before .before .before .before .before .before .before .args in
+    let l = c .before .before .before .before .before .loop in (
+      omega arith,
+      omega arith,
+      rows-join (entriesAt (placeInBlock (a .w)) (now (a .part))) (a .w) (a .w) (l .r) (l .r + 8) (now (a .work)) (l .work) _
+          (omega arith) (l .inv .0) (omega arith) (l .inv .2) (c .before .before .forward-rows8 .ensures),
+    )
+
+forward-last-rows-requires : tie.Need-forward-last-rows-requires Inv-loop μ-loop
+forward-last-rows-requires c κs =
+    let p = c .before .before .before .before .before .pre in
+    let a = c .before .before .before .before .before .args in
+    let l = c .before .before .loop in
+    (rows-beside (a .h) (a .w) (now (a .part)) (now (a .work)) (l .work) p (l .inv .2 .size), (omega arith, omega arith))
 
 same-length : tie.Need-same-length Inv-loop μ-loop
-same-length c = c .before .loop .inv .3 .size
+same-length c = c .before .before .forward-last-rows .ensures .size ∙ c .before .before .before .before .before .loop .inv .2 .size
 
 returns : tie.Need-returns Inv-loop μ-loop
 returns c =
-    let end : c .before .loop .r ≡ c .before .before .before .before .before .args .h = omega arith in
-    rw end at (c .before .loop .inv .3)
+    let a = c .before .before .before .before .before .before .before .before .args in
+    let l = c .before .before .before .before .before .loop in
+    rows-join (entriesAt (placeInBlock (a .w)) (now (a .part))) (a .w) (a .w) (l .r) (a .h) (now (a .work)) (l .work) _
+    (omega arith) (l .inv .0) (l .inv .1) (l .inv .2) (c .before .before .forward-last-rows .ensures)
 
 pub forward-rows-spec : {M : Type 1} → statement M
 forward-rows-spec =
@@ -77,18 +68,12 @@ forward-rows-spec =
     (tie.spec
     Inv-loop
     μ-loop
-    place-in-block-requires
     loop-holds
-    mul-subtract-rising
-    slice-read-subtract-rising
-    slice-reshare-prefix-subtract-rising
-    slice-aggregate-subtract-rising
-    subtract-rising-requires
-    mul-work
-    slice-write-work
+    add-loop
+    forward-rows8-requires
     add-r
-    add-at
     loop-less
     loop-again
+    forward-last-rows-requires
     same-length
     returns)

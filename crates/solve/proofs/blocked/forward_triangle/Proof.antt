@@ -1,5 +1,7 @@
-use native.Mathlib.Omega.{arith}
+-- `solve::blocked::forward_triangle` meets its contract. The invariant of its loop: the rows before r are finished; row r begins at `at`. Assumes
+-- nothing.
 use Prim.Native.Nat.{_-_, _≤_}
+use native.Mathlib.Omega.{arith}
 use mathlib.Core.Path.{_≡_}
 use denote.Ref.{now}
 use lib.ListN.{length-take}
@@ -7,7 +9,8 @@ use Rattle.shape.specs.Places.{placeInBlock}
 use Rattle.shape.proofs.Rows.{place-in-block-next-row-inside}
 use Rattle.solve.specs.Substitution.{entriesAt, TriangleForward}
 use Rattle.solve.proofs.Triangles.{forward-none}
-use Rattle.solve.proofs.BlockColumns.{first-place, room-inside, values-le, triangle-row}
+use Rattle.solve.proofs.BlockPlaces.{first-place, room-inside, values-le}
+use Rattle.solve.proofs.BlockColumns.{triangle-row}
 use Rattle.solve.proofs.blocked.forward_triangle.Statement.{statement}
 use Rattle.solve.proofs.blocked.forward_triangle.Tie as tie
 
@@ -34,16 +37,28 @@ slice-aggregate-subtract-rising : tie.Need-slice-aggregate-subtract-rising Inv-l
 slice-aggregate-subtract-rising c = simp length-take (omega arith)
 
 subtract-rising-requires : tie.Need-subtract-rising-requires Inv-loop μ-loop
-subtract-rising-requires c κs = simp length-take (omega (arith, room-inside (c .before .before .before .before .before .before .args .h) (c .before .before .before .before .before .before .args .w) (c .before .before .before .loop .r) (omega arith) (omega arith)))
+subtract-rising-requires c κs =
+    let a = c .before .before .before .before .before .before .args in
+    let l = c .before .before .before .loop in
+    simp length-take (omega (arith, room-inside (a .h) (a .w) (l .r) (omega arith) (omega arith)))
 
 add-work : tie.Need-add-work Inv-loop μ-loop
-add-work c = omega (arith, room-inside (c .before .before .before .before .before .before .before .args .h) (c .before .before .before .before .before .before .before .args .w) (c .before .before .before .before .loop .r) (omega arith) (omega arith))
+add-work c =
+    let a = c .before .before .before .before .before .before .before .args in
+    let l = c .before .before .before .before .loop in
+    omega (arith, room-inside (a .h) (a .w) (l .r) (omega arith) (omega arith))
 
 mul-work : tie.Need-mul-work Inv-loop μ-loop
-mul-work c = omega (arith, room-inside (c .before .before .before .before .before .before .before .args .h) (c .before .before .before .before .before .before .before .args .w) (c .before .before .before .before .loop .r) (omega arith) (omega arith))
+mul-work c =
+    let a = c .before .before .before .before .before .before .before .args in
+    let l = c .before .before .before .before .loop in
+    omega (arith, room-inside (a .h) (a .w) (l .r) (omega arith) (omega arith))
 
 shared-slice-read-work : tie.Need-shared-slice-read-work Inv-loop μ-loop
-shared-slice-read-work c = omega (arith, room-inside (c .before .before .before .before .before .before .before .before .args .h) (c .before .before .before .before .before .before .before .before .args .w) (c .before .before .before .before .before .loop .r) (omega arith) (omega arith))
+shared-slice-read-work c =
+    let a = c .before .before .before .before .before .before .before .before .args in
+    let l = c .before .before .before .before .before .loop in
+    omega (arith, room-inside (a .h) (a .w) (l .r) (omega arith) (omega arith))
 
 mul-work-2 : tie.Need-mul-work-2 Inv-loop μ-loop
 mul-work-2 c = omega arith
@@ -55,18 +70,24 @@ add-r : tie.Need-add-r Inv-loop μ-loop
 add-r c = omega arith
 
 add-at : tie.Need-add-at Inv-loop μ-loop
-add-at c = omega (arith, room-inside (c .before .before .before .before .before .before .before .before .args .h) (c .before .before .before .before .before .before .before .before .args .w) (c .before .before .before .before .before .loop .r) (omega arith) (omega arith), values-le (c .before .before .before .before .before .before .before .before .args .h) (c .before .before .before .before .before .before .before .before .args .w) (omega arith) (omega arith))
+add-at c =
+    let a = c .before .before .before .before .before .before .before .before .args in
+    let l = c .before .before .before .before .before .loop in
+    omega (arith, room-inside (a .h) (a .w) (l .r) (omega arith) (omega arith), values-le (a .h) (a .w) (omega arith) (omega arith))
 
 loop-less : tie.Need-loop-less Inv-loop μ-loop
 loop-less c = omega arith
 
 loop-again : tie.Need-loop-again Inv-loop μ-loop
-loop-again c = (
-  omega arith,
-  omega (arith, place-in-block-next-row-inside (c .before .before .before .before .before .before .before .before .args .w) (c .before .before .before .before .before .loop .r) 0 (omega arith)),
-  triangle-row (c .before .before .before .before .before .before .before .before .args .h) (c .before .before .before .before .before .before .before .before .args .w) (now (c .before .before .before .before .before .before .before .before .args .part)) (now (c .before .before .before .before .before .before .before .before .args .work)) (c .before .before .before .before .before .loop .work) (omega arith) (omega arith) (c .before .before .before .before .before .loop .r) (c .before .before .before .before .before .loop .at) (c .before .subtract-rising .result)
-      (c .before .before .before .before .loop-test .taken) (c .before .before .before .before .before .loop .inv .1) (c .before .subtract-rising .ensures) (c .before .before .before .before .before .loop .inv .2),
-)
+loop-again c =
+    let a = c .before .before .before .before .before .before .before .before .args in
+    let l = c .before .before .before .before .before .loop in
+    let subtract-rising = c .before .subtract-rising in (
+      omega arith,
+      omega (arith, place-in-block-next-row-inside (a .w) (l .r) 0 (omega arith)),
+      triangle-row (a .h) (a .w) (now (a .part)) (now (a .work)) (l .work) (omega arith) (omega arith) (l .r) (l .at) (subtract-rising .result)
+          (c .before .before .before .before .loop-test .taken) (l .inv .1) (subtract-rising .ensures) (l .inv .2),
+    )
 
 same-length : tie.Need-same-length Inv-loop μ-loop
 same-length c = c .before .loop .inv .2 .size

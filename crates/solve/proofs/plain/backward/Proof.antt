@@ -1,6 +1,4 @@
-use Rattle.solve.proofs.Packed.{part-room}
-use Rattle.solve.proofs.Substitution.{length-returned}
-use Rattle.solve.proofs.Packed.{backward-turn}
+-- `solve::plain::backward` meets its contract. The invariant of its loop: a substitution that had come to its first c has come to c. Assumes nothing.
 use Prim.Native.Nat.{_+_, _-_, _%_, _≤_}
 use native.Mathlib.Omega.{arith}
 use mathlib.Core.Path.{_≡_, refl}
@@ -10,14 +8,16 @@ use lib.ListN.{length, length-take, length-drop}
 use lib.Ieee.{Float}
 use Rattle.shape.specs.Places.{packedPlace, triangle}
 use Rattle.calls.specs.Triangles.{height, load}
-use Rattle.solve.proofs.Substitution.{BackwardTo, backward-start, backward-end}
+use Rattle.solve.proofs.Packed.{part-room, backward-turn}
+use Rattle.solve.proofs.Substitution.{length-returned, BackwardTo, backward-start, backward-end}
 use Rattle.solve.proofs.plain.backward.Statement.{statement}
 use Rattle.solve.proofs.plain.backward.Tie as tie
 
 abbrev Inv-loop : tie.InvT-loop
 Inv-loop n matrix work₀ shape left c₀ last work c =
     (c % 8 ≡ 0) × (c ≤ n) × (length work ≡ n) × (n ≤ 4000) × (length matrix ≡ triangle n) × (shape .order ≡ n)
-    × ((y : List Float) → BackwardTo n (load (packedPlace n) (height n) n matrix) y c₀ work₀ → BackwardTo n (load (packedPlace n) (height n) n matrix) y c work)
+    × ((y : List Float) →
+    BackwardTo n (load (packedPlace n) (height n) n matrix) y c₀ work₀ → BackwardTo n (load (packedPlace n) (height n) n matrix) y c work)
 
 abbrev μ-loop : tie.MeasureT-loop
 μ-loop n matrix work₀ shape left c₀ last work c = c
@@ -32,13 +32,31 @@ block-start-requires : tie.Need-block-start-requires Inv-loop μ-loop
 block-start-requires c κs = (omega (arith, c .new .ensures .0), omega (arith, c .new .ensures .0))
 
 mul-backward-triangle : tie.Need-mul-backward-triangle Inv-loop μ-loop
-mul-backward-triangle c = omega (arith, part-room (c .before .before .before .before .args .n) (c .before .before .before .before .args .n - c .before .before .before .before .args .n % 8) _ (c .block-start .result) (omega arith) refl (rw (c .before .new .ensures .0) at (c .block-start .ensures)))
+mul-backward-triangle c =
+    let a = c .before .before .before .before .args in
+    omega (
+      arith,
+      part-room (a .n) (a .n - a .n % 8) _ (c .block-start .result) (omega arith) refl
+          (rw (c .before .new .ensures .0) at (c .block-start .ensures)),
+    )
 
 sub-backward-triangle : tie.Need-sub-backward-triangle Inv-loop μ-loop
-sub-backward-triangle c = omega (arith, part-room (c .before .before .before .before .args .n) (c .before .before .before .before .args .n - c .before .before .before .before .args .n % 8) _ (c .block-start .result) (omega arith) refl (rw (c .before .new .ensures .0) at (c .block-start .ensures)))
+sub-backward-triangle c =
+    let a = c .before .before .before .before .args in
+    omega (
+      arith,
+      part-room (a .n) (a .n - a .n % 8) _ (c .block-start .result) (omega arith) refl
+          (rw (c .before .new .ensures .0) at (c .block-start .ensures)),
+    )
 
 part-backward-triangle-start : tie.Need-part-backward-triangle-start Inv-loop μ-loop
-part-backward-triangle-start c = omega (arith, part-room (c .before .before .before .before .args .n) (c .before .before .before .before .args .n - c .before .before .before .before .args .n % 8) _ (c .block-start .result) (omega arith) refl (rw (c .before .new .ensures .0) at (c .block-start .ensures)))
+part-backward-triangle-start c =
+    let a = c .before .before .before .before .args in
+    omega (
+      arith,
+      part-room (a .n) (a .n - a .n % 8) _ (c .block-start .result) (omega arith) refl
+          (rw (c .before .new .ensures .0) at (c .block-start .ensures)),
+    )
 
 part-backward-triangle-end : tie.Need-part-backward-triangle-end Inv-loop μ-loop
 part-backward-triangle-end c = omega arith
@@ -57,38 +75,55 @@ part-backward-triangle-end-2 c = omega arith
 
 backward-triangle-requires : tie.Need-backward-triangle-requires Inv-loop μ-loop
 backward-triangle-requires c κs =
-    let rows : c .before .before .before .before .before .before .args .n % 8 ≡ c .before .before .before .before .before .before .args .n - (c .before .before .before .before .before .before .args .n - c .before .before .before .before .before .before .args .n % 8) = omega arith in
-    let room = part-room (c .before .before .before .before .before .before .args .n) (c .before .before .before .before .before .before .args .n - c .before .before .before .before .before .before .args .n % 8) (c .before .before .before .before .before .before .args .n % 8) (c .before .before .block-start .result) (omega arith) rows (rw (c .before .before .before .new .ensures .0) at (c .before .before .block-start .ensures)) in
+    let a = c .before .before .before .before .before .before .args in
+    let block-start = c .before .before .block-start in
+    let rows : a .n % 8 ≡ a .n - (a .n - a .n % 8) = omega arith in
+    let room = part-room (a .n) (a .n - a .n % 8) (a .n % 8) (block-start .result) (omega arith) rows
+    (rw (c .before .before .before .new .ensures .0) at (block-start .ensures)) in
     (omega arith, (omega arith, (simp (length-take, length-drop) (omega (arith, room)), simp (length-take, length-drop) (omega arith))))
 
 loop-holds : tie.Need-loop-holds Inv-loop μ-loop
-loop-holds c = (
-  omega arith,
-  omega arith,
-  length-returned (c .before .before .before .before .before .before .before .before .before .args .n) (c .before .before .before .before .before .before .before .before .before .args .n - c .before .before .before .before .before .before .before .before .before .args .n % 8) (now (c .before .before .before .before .before .before .before .before .before .args .work)) (c .before .before .backward-triangle .last .1 .1 .1 .0) (omega arith) (omega arith) (c .before .before .backward-triangle .kept .1 .1 .1 .0),
-  omega arith,
-  omega arith,
-  c .before .before .before .before .before .before .new .ensures .0,
-  λ y s. s,
-)
+loop-holds c =
+    let a = c .before .before .before .before .before .before .before .before .before .args in
+    let backward-triangle = c .before .before .backward-triangle in (
+      omega arith,
+      omega arith,
+      length-returned (a .n) (a .n - a .n % 8) (now (a .work)) (backward-triangle .last .1 .1 .1 .0) (omega arith) (omega arith)
+          (backward-triangle .kept .1 .1 .1 .0),
+      omega arith,
+      omega arith,
+      c .before .before .before .before .before .before .new .ensures .0,
+      λ y s. s,
+    )
 
 sub-c-2 : tie.Need-sub-c-2 Inv-loop μ-loop
 sub-c-2 c = omega arith
 
 block-start-requires-2 : tie.Need-block-start-requires-2 Inv-loop μ-loop
-block-start-requires-2 c κs = (omega (arith, c .before .loop .inv .5, c .before .loop .inv .3), omega (arith, c .before .loop .inv .5, c .before .loop .inv .1))
+block-start-requires-2 c κs =
+    let l = c .before .loop in
+    (omega (arith, l .inv .5, l .inv .3), omega (arith, l .inv .5, l .inv .1))
 
 sub-backward-columns8 : tie.Need-sub-backward-columns8 Inv-loop μ-loop
 sub-backward-columns8 c = omega arith
 
 mul-backward-columns8 : tie.Need-mul-backward-columns8 Inv-loop μ-loop
-mul-backward-columns8 c = omega (arith, part-room (c .before .before .before .before .before .before .before .before .before .before .before .before .args .n) (c .before .before .loop .c - 8) _ (c .block-start2 .result) (omega arith) refl (rw (c .before .before .loop .inv .5) at (c .block-start2 .ensures)))
+mul-backward-columns8 c =
+    let a = c .before .before .before .before .before .before .before .before .before .before .before .before .args in
+    let l = c .before .before .loop in
+    omega (arith, part-room (a .n) (l .c - 8) _ (c .block-start2 .result) (omega arith) refl (rw (l .inv .5) at (c .block-start2 .ensures)))
 
 sub-backward-columns8-2 : tie.Need-sub-backward-columns8-2 Inv-loop μ-loop
-sub-backward-columns8-2 c = omega (arith, part-room (c .before .before .before .before .before .before .before .before .before .before .before .before .args .n) (c .before .before .loop .c - 8) _ (c .block-start2 .result) (omega arith) refl (rw (c .before .before .loop .inv .5) at (c .block-start2 .ensures)))
+sub-backward-columns8-2 c =
+    let a = c .before .before .before .before .before .before .before .before .before .before .before .before .args in
+    let l = c .before .before .loop in
+    omega (arith, part-room (a .n) (l .c - 8) _ (c .block-start2 .result) (omega arith) refl (rw (l .inv .5) at (c .block-start2 .ensures)))
 
 part-backward-columns8-start : tie.Need-part-backward-columns8-start Inv-loop μ-loop
-part-backward-columns8-start c = omega (arith, part-room (c .before .before .before .before .before .before .before .before .before .before .before .before .args .n) (c .before .before .loop .c - 8) _ (c .block-start2 .result) (omega arith) refl (rw (c .before .before .loop .inv .5) at (c .block-start2 .ensures)))
+part-backward-columns8-start c =
+    let a = c .before .before .before .before .before .before .before .before .before .before .before .before .args in
+    let l = c .before .before .loop in
+    omega (arith, part-room (a .n) (l .c - 8) _ (c .block-start2 .result) (omega arith) refl (rw (l .inv .5) at (c .block-start2 .ensures)))
 
 part-backward-columns8-end : tie.Need-part-backward-columns8-end Inv-loop μ-loop
 part-backward-columns8-end c = omega arith
@@ -107,24 +142,41 @@ part-backward-columns8-end-2 c = omega arith
 
 backward-columns8-requires : tie.Need-backward-columns8-requires Inv-loop μ-loop
 backward-columns8-requires c κs =
-    let room = part-room (c .before .before .before .before .before .before .before .before .before .before .before .before .before .before .args .n) (c .before .before .before .before .loop .c - 8) _ (c .before .before .block-start2 .result) (omega arith) refl (rw (c .before .before .before .before .loop .inv .5) at (c .before .before .block-start2 .ensures)) in
-    (omega arith, (omega arith, (simp (length-take, length-drop) (omega (arith, room, c .before .before .before .before .loop .inv .4)), simp (length-take, length-drop) (omega (arith, c .before .before .before .before .loop .inv .2)))))
+    let a = c .before .before .before .before .before .before .before .before .before .before .before .before .before .before .args in
+    let l = c .before .before .before .before .loop in
+    let block-start2 = c .before .before .block-start2 in
+    let room = part-room (a .n) (l .c - 8) _ (block-start2 .result) (omega arith) refl (rw (l .inv .5) at (block-start2 .ensures)) in (
+      omega arith,
+      (
+        omega arith,
+        (
+          simp (length-take, length-drop) (omega (arith, room, l .inv .4)),
+          simp (length-take, length-drop)
+              (omega (arith, l .inv .2)),
+        ),
+      ),
+    )
 
 loop-less : tie.Need-loop-less Inv-loop μ-loop
 loop-less c = omega arith
 
 loop-again : tie.Need-loop-again Inv-loop μ-loop
 loop-again c =
-    let back : c .before .before .before .before .before .before .before .loop .c - 8 + 8 ≡ c .before .before .before .before .before .before .before .loop .c = omega arith in (
+    let a = c .before .before .before .before .before .before .before .before .before .before .before .before .before .before .before .before .before .args in
+    let l = c .before .before .before .before .before .before .before .loop in
+    let backward-columns8 = c .before .before .backward-columns8 in
+    let block-start2 = c .before .before .before .before .before .block-start2 in
+    let back : l .c - 8 + 8 ≡ l .c = omega arith in (
       omega arith,
       omega arith,
-      length-returned (c .before .before .before .before .before .before .before .before .before .before .before .before .before .before .before .before .before .args .n) (c .before .before .before .before .before .before .before .loop .c - 8) (c .before .before .before .before .before .before .before .loop .work) (c .before .before .backward-columns8 .last .1 .1 .0) (c .before .before .before .before .before .before .before .loop .inv .2) (omega arith) (c .before .before .backward-columns8 .kept .1 .1 .0),
-      c .before .before .before .before .before .before .before .loop .inv .3,
-      c .before .before .before .before .before .before .before .loop .inv .4,
-      c .before .before .before .before .before .before .before .loop .inv .5,
+      length-returned (a .n) (l .c - 8) (l .work) (backward-columns8 .last .1 .1 .0) (l .inv .2) (omega arith) (backward-columns8 .kept .1 .1 .0),
+      l .inv .3,
+      l .inv .4,
+      l .inv .5,
       λ y s.
-          backward-turn (c .before .before .before .before .before .before .before .before .before .before .before .before .before .before .before .before .before .args .n) (c .before .before .before .before .before .before .before .loop .c - 8) 8 (c .before .before .before .before .before .before .before .before .before .before .before .before .before .before .before .before .before .args .n - (c .before .before .before .before .before .before .before .loop .c - 8)) (c .before .before .before .before .before .block-start2 .result) (now (c .before .before .before .before .before .before .before .before .before .before .before .before .before .before .before .before .before .args .matrix)) y (c .before .before .before .before .before .before .before .loop .work) (c .before .before .backward-columns8 .last .1 .1 .0)
-          (c .before .before .before .before .before .before .before .loop .inv .4) (omega arith) refl (rw (c .before .before .before .before .before .before .before .loop .inv .5) at (c .before .before .before .before .before .block-start2 .ensures)) (rw back (c .before .before .before .before .before .before .before .loop .inv .6 y s)) (c .before .before .backward-columns8 .ensures),
+          backward-turn (a .n) (l .c - 8) 8 (a .n - (l .c - 8)) (block-start2 .result) (now (a .matrix)) y (l .work)
+          (backward-columns8 .last .1 .1 .0)
+          (l .inv .4) (omega arith) refl (rw (l .inv .5) at (block-start2 .ensures)) (rw back (l .inv .6 y s)) (backward-columns8 .ensures),
     )
 
 same-length : tie.Need-same-length Inv-loop μ-loop
@@ -132,14 +184,20 @@ same-length c = omega (arith, c .before .loop .inv)
 
 returns : tie.Need-returns Inv-loop μ-loop
 returns c =
-    let rows : c .before .before .before .before .before .before .before .before .before .before .before .args .n % 8 ≡ c .before .before .before .before .before .before .before .before .before .before .before .args .n - (c .before .before .before .before .before .before .before .before .before .before .before .args .n - c .before .before .before .before .before .before .before .before .before .before .before .args .n % 8) = omega arith in
-    let whole : c .before .before .before .before .before .before .before .before .before .before .before .args .n - c .before .before .before .before .before .before .before .before .before .before .before .args .n % 8 + c .before .before .before .before .before .before .before .before .before .before .before .args .n % 8 ≡ c .before .before .before .before .before .before .before .before .before .before .before .args .n = omega arith in
-    let end : c .before .loop .c ≡ 0 = omega arith in
-    backward-end (c .before .before .before .before .before .before .before .before .before .before .before .args .n) _ (now (c .before .before .before .before .before .before .before .before .before .before .before .args .work)) (c .before .loop .work)
-    (rw end at (c .before .loop .inv .6 (now (c .before .before .before .before .before .before .before .before .before .before .before .args .work))
-    (backward-turn (c .before .before .before .before .before .before .before .before .before .before .before .args .n) (c .before .before .before .before .before .before .before .before .before .before .before .args .n - c .before .before .before .before .before .before .before .before .before .before .before .args .n % 8) (c .before .before .before .before .before .before .before .before .before .before .before .args .n % 8) (c .before .before .before .before .before .before .before .before .before .before .before .args .n % 8) (c .before .before .before .before .before .before .before .block-start .result) (now (c .before .before .before .before .before .before .before .before .before .before .before .args .matrix)) (now (c .before .before .before .before .before .before .before .before .before .before .before .args .work)) (now (c .before .before .before .before .before .before .before .before .before .before .before .args .work))
-    (c .before .before .before .before .backward-triangle .last .1 .1 .1 .0) (c .before .before .before .before .before .before .before .before .before .before .before .pre .1 .0) (omega arith) rows (rw (c .before .before .before .before .before .before .before .before .new .ensures .0) at (c .before .before .before .before .before .before .before .block-start .ensures))
-    (rw whole (backward-start (c .before .before .before .before .before .before .before .before .before .before .before .args .n) _ (now (c .before .before .before .before .before .before .before .before .before .before .before .args .work)) (c .before .before .before .before .before .before .before .before .before .before .before .pre .1 .1))) (c .before .before .before .before .backward-triangle .ensures))))
+    let a = c .before .before .before .before .before .before .before .before .before .before .before .args in
+    let p = c .before .before .before .before .before .before .before .before .before .before .before .pre in
+    let l = c .before .loop in
+    let block-start = c .before .before .before .before .before .before .before .block-start in
+    let backward-triangle = c .before .before .before .before .backward-triangle in
+    let rows : a .n % 8 ≡ a .n - (a .n - a .n % 8) = omega arith in
+    let whole : a .n - a .n % 8 + a .n % 8 ≡ a .n = omega arith in
+    let end : l .c ≡ 0 = omega arith in
+    backward-end (a .n) _ (now (a .work)) (l .work)
+    (rw end at (l .inv .6 (now (a .work))
+    (backward-turn (a .n) (a .n - a .n % 8) (a .n % 8) (a .n % 8) (block-start .result) (now (a .matrix)) (now (a .work)) (now (a .work))
+    (backward-triangle .last .1 .1 .1 .0) (p .1 .0) (omega arith) rows
+    (rw (c .before .before .before .before .before .before .before .before .new .ensures .0) at (block-start .ensures))
+    (rw whole (backward-start (a .n) _ (now (a .work)) (p .1 .1))) (backward-triangle .ensures))))
 
 pub backward-spec : {M : Type 1} → statement M
 backward-spec =

@@ -1,7 +1,8 @@
+-- `solve::plain::backward_columns8` meets its contract: the rows below the eight, and then their triangle. Assumes nothing.
 use native.Mathlib.Omega.{arith}
+use borrow.Author.Needs.{needs}
 use denote.Ref.{now}
 use Rattle.solve.proofs.Substitution.{backward-done}
-use borrow.Author.Needs.{needs}
 use Rattle.solve.proofs.plain.backward_columns8.Statement.{statement}
 use Rattle.solve.proofs.plain.backward_columns8.Tie as tie
 
@@ -15,7 +16,10 @@ same-length : tie.Need-same-length
 same-length c = search needs
 
 returns : tie.Need-returns
-returns c = backward-done _ (c .before .before .before .before .before .before .before .before .before .before .args .h) 8 (now (c .before .before .before .before .before .before .before .before .before .before .args .work)) _ _ (omega arith) (c .before .before .before .before .before .before .subtract-under8 .ensures) (c .before .before .backward-triangle .ensures)
+returns c =
+    let a = c .before .before .before .before .before .before .before .before .before .before .args in
+    backward-done _ (a .h) 8 (now (a .work)) _ _ (omega arith) (c .before .before .before .before .before .before .subtract-under8 .ensures)
+    (c .before .before .backward-triangle .ensures)
 
 pub backward-columns8-spec : {M : Type 1} → statement M
 backward-columns8-spec =

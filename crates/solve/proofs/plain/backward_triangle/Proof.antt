@@ -1,13 +1,13 @@
-use native.Mathlib.Omega.{arith}
-use mathlib.Core.Path.{ap}
-use Rattle.shape.specs.Places.{packedPlace}
-use lib.ListN.{length-take, length-drop}
-use Rattle.solve.proofs.Packed.{column-room, triangle-turn}
+-- `solve::plain::backward_triangle` meets its contract. The invariant of its loop: the rows from r on are finished, the others as before. Assumes
+-- nothing.
 use Prim.Native.Nat.{_-_, _≤_}
-use mathlib.Core.Path.{_≡_, _∙_}
+use native.Mathlib.Omega.{arith}
+use mathlib.Core.Path.{ap, _≡_, _∙_}
 use denote.Ref.{now}
+use lib.ListN.{length-take, length-drop}
 use Rattle.shape.specs.Places.{packedPlace}
 use Rattle.solve.specs.Substitution.{entriesAt}
+use Rattle.solve.proofs.Packed.{column-room, triangle-turn}
 use Rattle.solve.proofs.Triangles.{BackwardRows, backward-none, backward-all}
 use Rattle.solve.proofs.plain.backward_triangle.Statement.{statement}
 use Rattle.solve.proofs.plain.backward_triangle.Tie as tie
@@ -38,9 +38,12 @@ slice-read-subtract-falling c = omega arith
 
 add-subtract-falling : tie.Need-add-subtract-falling Inv-loop μ-loop
 add-subtract-falling c =
-    let placed : c .before .packed-place .result ≡ packedPlace (c .before .before .before .before .before .before .before .args .h) (c .before .before .before .before .loop .r - 1) (c .before .before .before .before .loop .r - 1) =
-    c .before .packed-place .ensures ∙ ap (λ n. packedPlace n (c .before .before .before .before .loop .r - 1) (c .before .before .before .before .loop .r - 1)) (c .before .before .new .ensures .0) in
-    omega (arith, placed, column-room (c .before .before .before .before .before .before .before .args .h) (c .before .before .before .before .loop .r) (omega arith) (omega arith))
+    let a = c .before .before .before .before .before .before .before .args in
+    let l = c .before .before .before .before .loop in
+    let packed-place = c .before .packed-place in
+    let placed : packed-place .result ≡ packedPlace (a .h) (l .r - 1) (l .r - 1) =
+    packed-place .ensures ∙ ap (λ n. packedPlace n (l .r - 1) (l .r - 1)) (c .before .before .new .ensures .0) in
+    omega (arith, placed, column-room (a .h) (l .r) (omega arith) (omega arith))
 
 mul-subtract-falling-2 : tie.Need-mul-subtract-falling-2 Inv-loop μ-loop
 mul-subtract-falling-2 c = omega arith
@@ -56,21 +59,30 @@ part-subtract-falling-end c = omega arith
 
 subtract-falling-requires : tie.Need-subtract-falling-requires Inv-loop μ-loop
 subtract-falling-requires c κs =
-    let placed : c .before .before .before .packed-place .result ≡ packedPlace (c .before .before .before .before .before .before .before .before .before .args .h) (c .before .before .before .before .before .before .loop .r - 1) (c .before .before .before .before .before .before .loop .r - 1) =
-    c .before .before .before .packed-place .ensures ∙ ap (λ n. packedPlace n (c .before .before .before .before .before .before .loop .r - 1) (c .before .before .before .before .before .before .loop .r - 1)) (c .before .before .before .before .new .ensures .0) in
-    simp (length-take, length-drop) (omega (arith, placed, column-room (c .before .before .before .before .before .before .before .before .before .args .h) (c .before .before .before .before .before .before .loop .r) (omega arith) (omega arith)))
+    let a = c .before .before .before .before .before .before .before .before .before .args in
+    let l = c .before .before .before .before .before .before .loop in
+    let packed-place = c .before .before .before .packed-place in
+    let placed : packed-place .result ≡ packedPlace (a .h) (l .r - 1) (l .r - 1) =
+    packed-place .ensures ∙ ap (λ n. packedPlace n (l .r - 1) (l .r - 1)) (c .before .before .before .before .new .ensures .0) in
+    simp (length-take, length-drop) (omega (arith, placed, column-room (a .h) (l .r) (omega arith) (omega arith)))
 
 mul-work : tie.Need-mul-work Inv-loop μ-loop
 mul-work c =
-    let placed : c .before .before .before .before .packed-place .result ≡ packedPlace (c .before .before .before .before .before .before .before .before .before .before .args .h) (c .before .before .before .before .before .before .before .loop .r - 1) (c .before .before .before .before .before .before .before .loop .r - 1) =
-    c .before .before .before .before .packed-place .ensures ∙ ap (λ n. packedPlace n (c .before .before .before .before .before .before .before .loop .r - 1) (c .before .before .before .before .before .before .before .loop .r - 1)) (c .before .before .before .before .before .new .ensures .0) in
-    omega (arith, placed, column-room (c .before .before .before .before .before .before .before .before .before .before .args .h) (c .before .before .before .before .before .before .before .loop .r) (omega arith) (omega arith))
+    let a = c .before .before .before .before .before .before .before .before .before .before .args in
+    let l = c .before .before .before .before .before .before .before .loop in
+    let packed-place = c .before .before .before .before .packed-place in
+    let placed : packed-place .result ≡ packedPlace (a .h) (l .r - 1) (l .r - 1) =
+    packed-place .ensures ∙ ap (λ n. packedPlace n (l .r - 1) (l .r - 1)) (c .before .before .before .before .before .new .ensures .0) in
+    omega (arith, placed, column-room (a .h) (l .r) (omega arith) (omega arith))
 
 shared-slice-read-work : tie.Need-shared-slice-read-work Inv-loop μ-loop
 shared-slice-read-work c =
-    let placed : c .before .before .before .before .before .packed-place .result ≡ packedPlace (c .before .before .before .before .before .before .before .before .before .before .before .args .h) (c .before .before .before .before .before .before .before .before .loop .r - 1) (c .before .before .before .before .before .before .before .before .loop .r - 1) =
-    c .before .before .before .before .before .packed-place .ensures ∙ ap (λ n. packedPlace n (c .before .before .before .before .before .before .before .before .loop .r - 1) (c .before .before .before .before .before .before .before .before .loop .r - 1)) (c .before .before .before .before .before .before .new .ensures .0) in
-    omega (arith, placed, column-room (c .before .before .before .before .before .before .before .before .before .before .before .args .h) (c .before .before .before .before .before .before .before .before .loop .r) (omega arith) (omega arith))
+    let a = c .before .before .before .before .before .before .before .before .before .before .before .args in
+    let l = c .before .before .before .before .before .before .before .before .loop in
+    let packed-place = c .before .before .before .before .before .packed-place in
+    let placed : packed-place .result ≡ packedPlace (a .h) (l .r - 1) (l .r - 1) =
+    packed-place .ensures ∙ ap (λ n. packedPlace n (l .r - 1) (l .r - 1)) (c .before .before .before .before .before .before .new .ensures .0) in
+    omega (arith, placed, column-room (a .h) (l .r) (omega arith) (omega arith))
 
 mul-work-2 : tie.Need-mul-work-2 Inv-loop μ-loop
 mul-work-2 c = omega arith
@@ -83,11 +95,16 @@ loop-less c = omega arith
 
 loop-again : tie.Need-loop-again Inv-loop μ-loop
 loop-again c =
-    let placed : c .before .before .before .before .before .packed-place .result ≡ packedPlace (c .before .before .before .before .before .before .before .before .before .before .before .args .h) (c .before .before .before .before .before .before .before .before .loop .r - 1) (c .before .before .before .before .before .before .before .before .loop .r - 1) =
-    c .before .before .before .before .before .packed-place .ensures ∙ ap (λ n. packedPlace n (c .before .before .before .before .before .before .before .before .loop .r - 1) (c .before .before .before .before .before .before .before .before .loop .r - 1)) (c .before .before .before .before .before .before .new .ensures .0) in (
+    let a = c .before .before .before .before .before .before .before .before .before .before .before .args in
+    let l = c .before .before .before .before .before .before .before .before .loop in
+    let packed-place = c .before .before .before .before .before .packed-place in
+    let subtract-falling = c .before .subtract-falling in
+    let placed : packed-place .result ≡ packedPlace (a .h) (l .r - 1) (l .r - 1) =
+    packed-place .ensures ∙ ap (λ n. packedPlace n (l .r - 1) (l .r - 1)) (c .before .before .before .before .before .before .new .ensures .0) in (
       omega arith,
-      triangle-turn (c .before .before .before .before .before .before .before .before .before .before .before .args .h) (c .before .before .before .before .before .before .before .before .before .before .before .args .w) (c .before .before .before .before .before .before .before .before .loop .r) (c .before .before .before .before .before .packed-place .result) (now (c .before .before .before .before .before .before .before .before .before .before .before .args .part)) (now (c .before .before .before .before .before .before .before .before .before .before .before .args .work)) (c .before .before .before .before .before .before .before .before .loop .work)
-          (c .before .subtract-falling .result) (c .before .before .before .before .before .before .before .loop-test .taken) (c .before .before .before .before .before .before .before .before .loop .inv .0) (omega arith) (omega arith) placed (c .before .subtract-falling .ensures) (c .before .before .before .before .before .before .before .before .loop .inv .1),
+      triangle-turn (a .h) (a .w) (l .r) (packed-place .result) (now (a .part)) (now (a .work)) (l .work)
+          (subtract-falling .result) (c .before .before .before .before .before .before .before .loop-test .taken) (l .inv .0) (omega arith)
+          (omega arith) placed (subtract-falling .ensures) (l .inv .1),
     )
 
 same-length : tie.Need-same-length Inv-loop μ-loop
@@ -95,8 +112,10 @@ same-length c = c .before .loop .inv .1 .size
 
 returns : tie.Need-returns Inv-loop μ-loop
 returns c =
-    let end : c .before .loop .r ≡ 0 = omega arith in
-    backward-all _ (c .before .before .before .before .args .w) (now (c .before .before .before .before .args .work)) (c .before .loop .work) (rw end at (c .before .loop .inv .1))
+    let a = c .before .before .before .before .args in
+    let l = c .before .loop in
+    let end : l .r ≡ 0 = omega arith in
+    backward-all _ (a .w) (now (a .work)) (l .work) (rw end at (l .inv .1))
 
 pub backward-triangle-spec : {M : Type 1} → statement M
 backward-triangle-spec =

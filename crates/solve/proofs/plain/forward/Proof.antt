@@ -1,13 +1,14 @@
-use Rattle.solve.proofs.Packed.{forward-turn}
-use native.Mathlib.Omega.{arith}
-use lib.ListN.{length-take, length-drop}
-use Rattle.shape.proofs.Columns.{block-start-zero, block-start-next}
-use Rattle.shape.proofs.Bounds.{block-start-le, triangle-le}
+-- `solve::plain::forward` meets its contract. The invariant of its loop: the substitution has come to k; column k begins at `at`. Assumes nothing.
 use Prim.Native.Nat.{_+_, _-_, _≤_}
+use native.Mathlib.Omega.{arith}
 use mathlib.Core.Path.{_≡_, sym, _∙_}
 use denote.Ref.{now}
+use lib.ListN.{length-take, length-drop}
 use Rattle.shape.specs.Places.{packedPlace, blockStart}
+use Rattle.shape.proofs.Columns.{block-start-zero, block-start-next}
+use Rattle.shape.proofs.Bounds.{block-start-le, triangle-le}
 use Rattle.calls.specs.Triangles.{height, load}
+use Rattle.solve.proofs.Packed.{forward-turn}
 use Rattle.solve.proofs.Substitution.{ForwardTo, forward-start, forward-end}
 use Rattle.solve.proofs.plain.forward.Statement.{statement}
 use Rattle.solve.proofs.plain.forward.Tie as tie
@@ -19,16 +20,23 @@ abbrev μ-loop : tie.MeasureT-loop
 μ-loop n matrix work₀ at₀ k₀ work at k = n - k
 
 loop-holds : tie.Need-loop-holds Inv-loop μ-loop
-loop-holds c = (omega arith, sym (block-start-zero (c .before .before .args .n)), forward-start (c .before .before .args .n) _ (now (c .before .before .args .work)) (c .before .before .pre .1 .1))
+loop-holds c =
+    let a = c .before .before .args in
+    (omega arith, sym (block-start-zero (a .n)), forward-start (a .n) _ (now (a .work)) (c .before .before .pre .1 .1))
 
 sub-next : tie.Need-sub-next Inv-loop μ-loop
 sub-next c = omega arith
 
 add-next : tie.Need-add-next Inv-loop μ-loop
-add-next c = omega (arith, block-start-next (c .before .before .before .before .args .n) (c .before .loop .k) (omega arith), block-start-le (c .before .before .before .before .args .n) (c .before .loop .k + 1) (omega arith), triangle-le (c .before .before .before .before .args .n) (omega arith))
+add-next c =
+    let a = c .before .before .before .before .args in
+    let l = c .before .loop in
+    omega (arith, block-start-next (a .n) (l .k) (omega arith), block-start-le (a .n) (l .k + 1) (omega arith), triangle-le (a .n) (omega arith))
 
 mul-forward-column : tie.Need-mul-forward-column Inv-loop μ-loop
-mul-forward-column c = omega (arith, block-start-le (c .before .before .before .before .args .n) (c .before .loop .k) (omega arith), triangle-le (c .before .before .before .before .args .n) (omega arith))
+mul-forward-column c =
+    let a = c .before .before .before .before .args in
+    omega (arith, block-start-le (a .n) (c .before .loop .k) (omega arith), triangle-le (a .n) (omega arith))
 
 sub-forward-column : tie.Need-sub-forward-column Inv-loop μ-loop
 sub-forward-column c = omega arith
@@ -37,7 +45,10 @@ part-forward-column-start : tie.Need-part-forward-column-start Inv-loop μ-loop
 part-forward-column-start c = omega arith
 
 part-forward-column-end : tie.Need-part-forward-column-end Inv-loop μ-loop
-part-forward-column-end c = omega (arith, block-start-next (c .before .before .before .before .args .n) (c .before .loop .k) (omega arith), block-start-le (c .before .before .before .before .args .n) (c .before .loop .k + 1) (omega arith))
+part-forward-column-end c =
+    let a = c .before .before .before .before .args in
+    let l = c .before .loop in
+    omega (arith, block-start-next (a .n) (l .k) (omega arith), block-start-le (a .n) (l .k + 1) (omega arith))
 
 mul-forward-column-2 : tie.Need-mul-forward-column-2 Inv-loop μ-loop
 mul-forward-column-2 c = omega arith
@@ -52,11 +63,13 @@ part-forward-column-end-2 : tie.Need-part-forward-column-end-2 Inv-loop μ-loop
 part-forward-column-end-2 c = omega arith
 
 forward-column-requires : tie.Need-forward-column-requires Inv-loop μ-loop
-forward-column-requires c κs = (
-  simp (length-take, length-drop) (omega arith),
-  simp (length-take, length-drop)
-      (omega (arith, block-start-next (c .before .before .before .before .before .before .args .n) (c .before .before .before .loop .k) (omega arith), block-start-le (c .before .before .before .before .before .before .args .n) (c .before .before .before .loop .k + 1) (omega arith))),
-)
+forward-column-requires c κs =
+    let a = c .before .before .before .before .before .before .args in
+    let l = c .before .before .before .loop in (
+      simp (length-take, length-drop) (omega arith),
+      simp (length-take, length-drop)
+          (omega (arith, block-start-next (a .n) (l .k) (omega arith), block-start-le (a .n) (l .k + 1) (omega arith))),
+    )
 
 add-k : tie.Need-add-k Inv-loop μ-loop
 add-k c = omega arith
@@ -65,20 +78,26 @@ loop-less : tie.Need-loop-less Inv-loop μ-loop
 loop-less c = omega arith
 
 loop-again : tie.Need-loop-again Inv-loop μ-loop
-loop-again c = (
-  omega arith,
-  omega (arith, block-start-next (c .before .before .before .before .before .before .before .before .before .args .n) (c .before .before .before .before .before .before .loop .k) (omega arith)),
-  forward-turn (c .before .before .before .before .before .before .before .before .before .args .n) (c .before .before .before .before .before .before .loop .k) (c .before .before .before .before .before .before .loop .at) (now (c .before .before .before .before .before .before .before .before .before .args .matrix)) (now (c .before .before .before .before .before .before .before .before .before .args .work)) (c .before .before .before .before .before .before .loop .work) (c .before .before .forward-column .last .1 .0) (c .before .before .before .before .before .loop-test .taken) (c .before .before .before .before .before .before .loop .inv .1)
-      (c .before .before .before .before .before .before .loop .inv .2) (c .before .before .forward-column .ensures),
-)
+loop-again c =
+    let a = c .before .before .before .before .before .before .before .before .before .args in
+    let l = c .before .before .before .before .before .before .loop in
+    let forward-column = c .before .before .forward-column in (
+      omega arith,
+      omega (arith, block-start-next (a .n) (l .k) (omega arith)),
+      forward-turn (a .n) (l .k) (l .at) (now (a .matrix)) (now (a .work)) (l .work) (forward-column .last .1 .0)
+          (c .before .before .before .before .before .loop-test .taken) (l .inv .1)
+          (l .inv .2) (forward-column .ensures),
+    )
 
 same-length : tie.Need-same-length Inv-loop μ-loop
 same-length c = c .before .loop .inv .2 .size ∙ sym (c .before .before .before .before .pre .1 .1)
 
 returns : tie.Need-returns Inv-loop μ-loop
 returns c =
-    let end : c .before .loop .k ≡ c .before .before .before .before .args .n = omega arith in
-    forward-end (c .before .before .before .before .args .n) _ (now (c .before .before .before .before .args .work)) (c .before .loop .work) (rw end at (c .before .loop .inv .2))
+    let a = c .before .before .before .before .args in
+    let l = c .before .loop in
+    let end : l .k ≡ a .n = omega arith in
+    forward-end (a .n) _ (now (a .work)) (l .work) (rw end at (l .inv .2))
 
 pub forward-spec : {M : Type 1} → statement M
 forward-spec =

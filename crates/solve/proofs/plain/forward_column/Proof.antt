@@ -1,10 +1,10 @@
-use mathlib.Core.List.{[]}
-use Rattle.solve.proofs.Packed.{column-whole, column-size}
+-- `solve::plain::forward_column` meets its contract: the first row is finished, and its products are subtracted from the others. Assumes nothing.
 use native.Mathlib.Omega.{arith}
+use mathlib.Core.List.{[]}
+use borrow.Author.Needs.{needs}
 use denote.Ref.{now}
 use lib.ListN.{length-take, length-drop, length-set}
-use Rattle.solve.proofs.Packed.{column-done}
-use borrow.Author.Needs.{needs}
+use Rattle.solve.proofs.Packed.{column-whole, column-size, column-done}
 use Rattle.solve.proofs.plain.forward_column.Statement.{statement}
 use Rattle.solve.proofs.plain.forward_column.Tie as tie
 
@@ -39,12 +39,19 @@ subtract-multiple-requires : tie.Need-subtract-multiple-requires
 subtract-multiple-requires c κs = simp (length-take, length-drop, length-set) (omega arith)
 
 same-length : tie.Need-same-length
-same-length c = column-size (now (c .before .before .before .before .before .before .before .before .before .args .column)) (now (c .before .before .before .before .before .before .before .before .before .args .work)) (c .before .before .subtract-multiple .last .0) [] (c .before .before .before .before .before .before .before .before .before .pre .0) (c .before .before .before .before .before .before .before .before .before .pre .1) (c .before .before .subtract-multiple .kept .0)
+same-length c =
+    let a = c .before .before .before .before .before .before .before .before .before .args in
+    let p = c .before .before .before .before .before .before .before .before .before .pre in
+    let subtract-multiple = c .before .before .subtract-multiple in
+    column-size (now (a .column)) (now (a .work)) (subtract-multiple .last .0) [] (p .0) (p .1) (subtract-multiple .kept .0)
 
 returns : tie.Need-returns
 returns c =
-    column-done (now (c .before .before .before .before .before .before .before .before .before .args .column)) (now (c .before .before .before .before .before .before .before .before .before .args .work)) (c .before .before .subtract-multiple .last .0) _ (c .before .before .before .before .before .before .before .before .before .pre .0) (c .before .before .before .before .before .before .before .before .before .pre .1) (c .before .before .subtract-multiple .ensures)
-    (column-whole (now (c .before .before .before .before .before .before .before .before .before .args .column)) (now (c .before .before .before .before .before .before .before .before .before .args .work)) (c .before .before .subtract-multiple .last .0) [] (c .before .before .before .before .before .before .before .before .before .pre .0) (c .before .before .before .before .before .before .before .before .before .pre .1) (c .before .before .subtract-multiple .kept .0))
+    let a = c .before .before .before .before .before .before .before .before .before .args in
+    let p = c .before .before .before .before .before .before .before .before .before .pre in
+    let subtract-multiple = c .before .before .subtract-multiple in
+    column-done (now (a .column)) (now (a .work)) (subtract-multiple .last .0) _ (p .0) (p .1) (subtract-multiple .ensures)
+    (column-whole (now (a .column)) (now (a .work)) (subtract-multiple .last .0) [] (p .0) (p .1) (subtract-multiple .kept .0))
 
 pub forward-column-spec : {M : Type 1} → statement M
 forward-column-spec =

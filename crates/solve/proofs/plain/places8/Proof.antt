@@ -1,11 +1,11 @@
+-- `solve::plain::places8` meets its contract. The invariant of its loop: s places are stored, and `at` is that of column s. Assumes nothing.
+use Prim.Native.Nat.{ℕ, _+_, _-_, _≤_, _<_}
 use native.Mathlib.Omega.{arith}
+use mathlib.Core.Path.{_≡_, refl}
+use lib.ListN.{length}
 use Rattle.shape.specs.Places.{packedPlace, blockStart}
 use Rattle.shape.proofs.Bounds.{block-start-le, triangle-le}
 use Rattle.shape.proofs.Columns.{block-start-zero, block-start-next, packed-place-column}
-use Prim.Native.Nat.{ℕ, _+_, _-_, _≤_, _<_}
-use mathlib.Core.Path.{_≡_, refl}
-use lib.ListN.{length}
-use Rattle.shape.specs.Places.{packedPlace}
 use Rattle.kernels.proofs.Loops.{Stored, stored-none, stored-next}
 use Rattle.solve.proofs.plain.places8.Statement.{statement}
 use Rattle.solve.proofs.plain.places8.Tie as tie
@@ -41,18 +41,23 @@ sub-at : tie.Need-sub-at Inv-loop μ-loop
 sub-at c = omega arith
 
 add-at : tie.Need-add-at Inv-loop μ-loop
-add-at c = omega (arith, place (c .before .before .args .h) (c .before .loop .s) (omega arith) (c .before .before .pre .1), block-start-le (c .before .before .args .h) (c .before .loop .s) (omega arith), triangle-le (c .before .before .args .h) (c .before .before .pre .0))
+add-at c =
+    let a = c .before .before .args in
+    let p = c .before .before .pre in
+    let l = c .before .loop in
+    omega (arith, place (a .h) (l .s) (omega arith) (p .1), block-start-le (a .h) (l .s) (omega arith), triangle-le (a .h) (p .0))
 
 loop-less : tie.Need-loop-less Inv-loop μ-loop
 loop-less c = omega arith
 
 loop-again : tie.Need-loop-again Inv-loop μ-loop
-loop-again c = (
-  omega arith,
-  c .before .loop .inv .1,
-  next (c .before .before .args .h) (c .before .loop .s) (c .before .loop .at) (omega arith) (c .before .before .pre .1) (c .before .loop .inv .2),
-  stored-next 0 _ _ (c .before .loop .s) (c .before .loop .places) (c .before .loop .at) (omega arith) (c .before .loop .inv .3) (c .before .loop .inv .2),
-)
+loop-again c =
+    let l = c .before .loop in (
+      omega arith,
+      l .inv .1,
+      next (c .before .before .args .h) (l .s) (l .at) (omega arith) (c .before .before .pre .1) (l .inv .2),
+      stored-next 0 _ _ (l .s) (l .places) (l .at) (omega arith) (l .inv .3) (l .inv .2),
+    )
 
 returns : tie.Need-returns Inv-loop μ-loop
 returns c = λ s h. c .before .loop .inv .3 .done s (omega arith)

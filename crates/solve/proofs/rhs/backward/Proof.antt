@@ -1,9 +1,9 @@
 -- `solve::rhs::backward` meets its contract, by cases on the layout. Assumes nothing.
+use borrow.Author.Needs.{needs}
 use lib.Dec.{T}
 use Rattle.calls.specs.declared.Call.the-variants.{Solver}
 use Rattle.calls.specs.Refusals.{byBlocks}
 use Rattle.calls.specs.Triangles.{placeOf}
-use borrow.Author.Needs.{needs}
 use Rattle.solve.proofs.rhs.backward.Statement.{statement}
 use Rattle.solve.proofs.rhs.backward.Tie as tie
 

@@ -1,8 +1,8 @@
 -- `solve::rhs::solve` meets its contract. Assumes nothing.
 use mathlib.Core.Path.{sym}
+use borrow.Author.Needs.{needs}
 use Rattle.calls.proofs.Judging.{refused-of, accepted-of}
 use Rattle.solve.proofs.Outcomes.{checks-refused, work-fits, part-length, checked, rhs-length, all-done}
-use borrow.Author.Needs.{needs}
 use Rattle.solve.proofs.rhs.solve.Statement.{statement}
 use Rattle.solve.proofs.rhs.solve.Tie as tie
 
@@ -16,16 +16,41 @@ same-length : tie.Need-same-length
 same-length c = search needs
 
 returns : tie.Need-returns
-returns c = checks-refused (c .before .before .before .before .before .before .before .args .layout) (c .before .before .before .before .before .before .before .args .shape .order) (c .before .before .before .before .before .before .before .args .shape .block) (c .before .before .before .before .before .before .before .args .m) (c .before .before .before .before .before .before .before .args .matrix .now) (c .before .before .before .before .before .before .before .args .rhs .now) (c .before .before .before .before .before .before .before .args .work .now) (c .before .before .check-solver .result) (c .before .before .check-solver .ensures) (refused-of (c .before .accepted .result) (c .before .before .check-solver .result) (c .before .accepted .ensures) (c .if1 .taken))
+returns c =
+    let a = c .before .before .before .before .before .before .before .args in
+    let check-solver = c .before .before .check-solver in
+    let accepted = c .before .accepted in
+    checks-refused (a .layout) (a .shape .order) (a .shape .block) (a .m) (a .matrix .now) (a .rhs .now) (a .work .now) (check-solver .result)
+    (check-solver .ensures) (refused-of (accepted .result) (check-solver .result) (accepted .ensures) (c .if1 .taken))
 
 slice-relend-prefix-solve-cleared : tie.Need-slice-relend-prefix-solve-cleared
-slice-relend-prefix-solve-cleared c = work-fits (c .before .before .before .before .before .before .before .before .args .layout) (c .before .before .before .before .before .before .before .before .args .shape .order) (c .before .before .before .before .before .before .before .before .args .shape .block) (c .before .before .before .before .before .before .before .before .args .m) (c .before .before .before .before .before .before .before .before .args .matrix .now) (c .before .before .before .before .before .before .before .before .args .rhs .now) (c .before .before .before .before .before .before .before .before .args .work .now) (c .before .before .before .check-solver .result) (c .before .before .before .check-solver .ensures) (accepted-of (c .before .before .accepted .result) (c .before .before .before .check-solver .result) (c .before .before .accepted .ensures) (c .before .if1 .left))
+slice-relend-prefix-solve-cleared c =
+    let a = c .before .before .before .before .before .before .before .before .args in
+    let check-solver = c .before .before .before .check-solver in
+    let accepted = c .before .before .accepted in
+    work-fits (a .layout) (a .shape .order) (a .shape .block) (a .m) (a .matrix .now) (a .rhs .now) (a .work .now) (check-solver .result)
+    (check-solver .ensures) (accepted-of (accepted .result) (check-solver .result) (accepted .ensures) (c .before .if1 .left))
 
 slice-aggregate-solve-cleared : tie.Need-slice-aggregate-solve-cleared
-slice-aggregate-solve-cleared c = sym (part-length (c .before .before .before .before .before .before .before .before .before .args .layout) (c .before .before .before .before .before .before .before .before .before .args .shape .order) (c .before .before .before .before .before .before .before .before .before .args .shape .block) (c .before .before .before .before .before .before .before .before .before .args .m) (c .before .before .before .before .before .before .before .before .before .args .matrix .now) (c .before .before .before .before .before .before .before .before .before .args .rhs .now) (c .before .before .before .before .before .before .before .before .before .args .work .now) (c .before .before .before .before .check-solver .result) (c .before .before .before .before .check-solver .ensures) (accepted-of (c .before .before .before .accepted .result) (c .before .before .before .before .check-solver .result) (c .before .before .before .accepted .ensures) (c .before .before .if1 .left)))
+slice-aggregate-solve-cleared c =
+    let a = c .before .before .before .before .before .before .before .before .before .args in
+    let check-solver = c .before .before .before .before .check-solver in
+    let accepted = c .before .before .before .accepted in
+    sym (part-length (a .layout) (a .shape .order) (a .shape .block) (a .m) (a .matrix .now) (a .rhs .now) (a .work .now) (check-solver .result)
+    (check-solver .ensures) (accepted-of (accepted .result) (check-solver .result) (accepted .ensures) (c .before .before .if1 .left)))
 
 solve-cleared-requires : tie.Need-solve-cleared-requires
-solve-cleared-requires c κs = (checked (c .before .before .before .before .before .before .before .before .before .args .layout) (c .before .before .before .before .before .before .before .before .before .args .shape .order) (c .before .before .before .before .before .before .before .before .before .args .shape .block) (c .before .before .before .before .before .before .before .before .before .args .m) (c .before .before .before .before .before .before .before .before .before .args .matrix .now) (c .before .before .before .before .before .before .before .before .before .args .rhs .now) (c .before .before .before .before .before .before .before .before .before .args .work .now) (c .before .before .before .before .check-solver .result) (c .before .before .before .before .check-solver .ensures) (accepted-of (c .before .before .before .accepted .result) (c .before .before .before .before .check-solver .result) (c .before .before .before .accepted .ensures) (c .before .before .if1 .left)), rhs-length (c .before .before .before .before .before .before .before .before .before .args .layout) (c .before .before .before .before .before .before .before .before .before .args .shape .order) (c .before .before .before .before .before .before .before .before .before .args .shape .block) (c .before .before .before .before .before .before .before .before .before .args .m) (c .before .before .before .before .before .before .before .before .before .args .matrix .now) (c .before .before .before .before .before .before .before .before .before .args .rhs .now) (c .before .before .before .before .before .before .before .before .before .args .work .now) (c .before .before .before .before .check-solver .result) (c .before .before .before .before .check-solver .ensures) (accepted-of (c .before .before .before .accepted .result) (c .before .before .before .before .check-solver .result) (c .before .before .before .accepted .ensures) (c .before .before .if1 .left)))
+solve-cleared-requires c κs =
+    let a = c .before .before .before .before .before .before .before .before .before .args in
+    let check-solver = c .before .before .before .before .check-solver in
+    let accepted = c .before .before .before .accepted in
+    let if1 = c .before .before .if1 in (
+      checked (a .layout) (a .shape .order) (a .shape .block) (a .m) (a .matrix .now) (a .rhs .now) (a .work .now) (check-solver .result)
+          (check-solver .ensures) (accepted-of (accepted .result) (check-solver .result) (accepted .ensures) (if1 .left)),
+      rhs-length (a .layout)
+          (a .shape .order) (a .shape .block) (a .m) (a .matrix .now) (a .rhs .now) (a .work .now) (check-solver .result) (check-solver .ensures)
+          (accepted-of (accepted .result) (check-solver .result) (accepted .ensures) (if1 .left)),
+    )
 
 same-length-2 : tie.Need-same-length-2
 same-length-2 c = search needs
@@ -35,8 +60,15 @@ same-length-3 c = search needs
 
 returns-2 : tie.Need-returns-2
 returns-2 c =
-    rw (c .before .before .before .before .solve-cleared .ensures .1)
-    (all-done (c .before .before .before .before .before .before .before .before .before .before .before .before .before .before .args .layout) (c .before .before .before .before .before .before .before .before .before .before .before .before .before .before .args .shape .order) (c .before .before .before .before .before .before .before .before .before .before .before .before .before .before .args .shape .block) (c .before .before .before .before .before .before .before .before .before .before .before .before .before .before .args .m) (c .before .before .before .before .before .before .before .before .before .before .before .before .before .before .args .matrix .now) (c .before .before .before .before .before .before .before .before .before .before .before .before .before .before .args .rhs .now) (c .before .before .before .before .before .before .before .before .before .before .before .before .before .before .args .work .now) (c .before .before .before .before .before .before .before .before .before .check-solver .result) (c .before .before .before .before .before .before .before .before .before .check-solver .ensures) (accepted-of (c .before .before .before .before .before .before .before .before .accepted .result) (c .before .before .before .before .before .before .before .before .before .check-solver .result) (c .before .before .before .before .before .before .before .before .accepted .ensures) (c .before .before .before .before .before .before .before .if1 .left)) (c .before .before .before .before .solve-cleared .result) (c .before .before .before .before .solve-cleared .last .1 .1 .1 .1 .0) (c .before .before .before .before .solve-cleared .ensures .0))
+    let a = c .before .before .before .before .before .before .before .before .before .before .before .before .before .before .args in
+    let solve-cleared = c .before .before .before .before .solve-cleared in
+    let check-solver = c .before .before .before .before .before .before .before .before .before .check-solver in
+    let accepted = c .before .before .before .before .before .before .before .before .accepted in
+    rw (solve-cleared .ensures .1)
+    (all-done (a .layout) (a .shape .order) (a .shape .block) (a .m) (a .matrix .now) (a .rhs .now) (a .work .now) (check-solver .result)
+    (check-solver .ensures) (accepted-of (accepted .result) (check-solver .result) (accepted .ensures)
+    (c .before .before .before .before .before .before .before .if1 .left)) (solve-cleared .result) (solve-cleared .last .1 .1 .1 .1 .0)
+    (solve-cleared .ensures .0))
 
 pub solve-spec : {M : Type 1} → statement M
 solve-spec =

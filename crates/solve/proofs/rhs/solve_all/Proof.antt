@@ -1,5 +1,5 @@
--- `solve::rhs::solve_all` meets its contract. The invariant of its loop: the first q right-hand sides pass and hold their solutions, the others
--- are as they were. The measure is what is left of m. Assumes nothing.
+-- `solve::rhs::solve_all` meets its contract. The invariant of its loop: the first q right-hand sides pass and hold their solutions, the others are
+-- as they were. The measure is what is left of m. Assumes nothing.
 use Prim.Native.Nat.{_+_, _-_, _*_, _≤_}
 use native.Mathlib.Omega.{arith}
 use mathlib.Core.Path.{_≡_, refl, ap, _∙_, subst}
@@ -25,8 +25,14 @@ abbrev μ-loop : tie.MeasureT-loop
 loop-holds : tie.Need-loop-holds Inv-loop μ-loop
 unfolding lowestRefusal
 loop-holds c =
-    let start = c .before .before .before in
-    (omega arith, omega arith, start .pre .0 .workLength, none-solved (start .args .shape .order) (factorOf (start .args .layout) (start .args .shape .order) (start .args .shape .block) (now (start .args .matrix))) (now (start .args .rhs)), refl)
+    let start = c .before .before .before in (
+      omega arith,
+      omega arith,
+      start .pre .0 .workLength,
+      none-solved (start .args .shape .order)
+          (factorOf (start .args .layout) (start .args .shape .order) (start .args .shape .block) (now (start .args .matrix))) (now (start .args .rhs)),
+      refl,
+    )
 
 add-to : tie.Need-add-to Inv-loop μ-loop
 add-to c =
@@ -50,7 +56,9 @@ part-solve-one-end : tie.Need-part-solve-one-end Inv-loop μ-loop
 part-solve-one-end c =
     let start = c .before .before .before .before .before in
     let loop = c .before .loop in
-    let size : length (loop .rhs) ≡ length (now (start .args .rhs)) = ap length (loop .inv .3) ∙ length-solutions (start .args .shape .order) (factorOf (start .args .layout) (start .args .shape .order) (start .args .shape .block) (now (start .args .matrix))) (now (start .args .rhs)) (start .args .m) (loop .q) (start .pre .1) (loop .inv .0) in
+    let size : length (loop .rhs) ≡ length (now (start .args .rhs)) = ap length (loop .inv .3) ∙ length-solutions (start .args .shape .order)
+    (factorOf (start .args .layout) (start .args .shape .order) (start .args .shape .block) (now (start .args .matrix))) (now (start .args .rhs))
+    (start .args .m) (loop .q) (start .pre .1) (loop .inv .0) in
     omega (arith, next-within (start .args .shape .order) (start .args .m) (loop .q) (c .loop-test .taken), start .pre .1)
 
 solve-one-requires : tie.Need-solve-one-requires Inv-loop μ-loop
@@ -63,9 +71,14 @@ same-length : tie.Need-same-length Inv-loop μ-loop
 same-length c =
     let start = c .before .before .before .before .before .before .before .before .before .before .before .before .before .before in
     let loop = c .before .before .before .before .before .before .before .before .before .before .loop in
-    ap length (turn-kept (start .args .shape .order) (start .args .m) (factorOf (start .args .layout) (start .args .shape .order) (start .args .shape .block) (now (start .args .matrix))) (now (start .args .rhs)) (loop .q) (loop .from) (loop .from + start .args .shape .order - loop .from) (loop .rhs) _ _
-    (loop .inv .1) (omega arith) (loop .inv .3) (loop .inv .4) (c .before .before .before .before .before .before .solve-one .ensures) (c .before .if1 .taken))
-    ∙ ap length (loop .inv .3) ∙ length-solutions (start .args .shape .order) (factorOf (start .args .layout) (start .args .shape .order) (start .args .shape .block) (now (start .args .matrix))) (now (start .args .rhs)) (start .args .m) (loop .q) (start .pre .1) (loop .inv .0)
+    ap length (turn-kept (start .args .shape .order) (start .args .m)
+    (factorOf (start .args .layout) (start .args .shape .order) (start .args .shape .block) (now (start .args .matrix))) (now (start .args .rhs))
+    (loop .q) (loop .from) (loop .from + start .args .shape .order - loop .from) (loop .rhs) _ _
+    (loop .inv .1) (omega arith) (loop .inv .3) (loop .inv .4) (c .before .before .before .before .before .before .solve-one .ensures)
+    (c .before .if1 .taken))
+    ∙ ap length (loop .inv .3) ∙ length-solutions (start .args .shape .order)
+    (factorOf (start .args .layout) (start .args .shape .order) (start .args .shape .block) (now (start .args .matrix))) (now (start .args .rhs))
+    (start .args .m) (loop .q) (start .pre .1) (loop .inv .0)
 
 same-length-2 : tie.Need-same-length-2 Inv-loop μ-loop
 same-length-2 c = search needs
@@ -74,9 +87,12 @@ returns : tie.Need-returns Inv-loop μ-loop
 returns c =
     let start = c .before .before .before .before .before .before .before .before .before .before .before .before .before .before in
     let loop = c .before .before .before .before .before .before .before .before .before .before .loop in
-    turn-refused (start .args .shape .order) (start .args .m) (factorOf (start .args .layout) (start .args .shape .order) (start .args .shape .block) (now (start .args .matrix))) (now (start .args .rhs)) (loop .q) (loop .from) (loop .from + start .args .shape .order - loop .from) (loop .rhs) _ _
+    turn-refused (start .args .shape .order) (start .args .m)
+    (factorOf (start .args .layout) (start .args .shape .order) (start .args .shape .block) (now (start .args .matrix))) (now (start .args .rhs))
+    (loop .q) (loop .from) (loop .from + start .args .shape .order - loop .from) (loop .rhs) _ _
     (loop .inv .1) (omega arith) (loop .inv .3) (loop .inv .4) (c .before .before .before .before .before .before .solve-one .ensures)
-    (c .refusal .result) (c .before .before .before .before .before .before .before .before .before .loop-test .taken) (c .before .if1 .taken) (c .refusal .ensures)
+    (c .refusal .result) (c .before .before .before .before .before .before .before .before .before .loop-test .taken) (c .before .if1 .taken)
+    (c .refusal .ensures)
 
 add-q : tie.Need-add-q Inv-loop μ-loop
 add-q c = search needs
@@ -88,9 +104,17 @@ loop-again : tie.Need-loop-again Inv-loop μ-loop
 loop-again c =
     let start = c .before .before .before .before .before .before .before .before .before .before .before .before .before in
     let loop = c .before .before .before .before .before .before .before .before .before .loop in
-    let turn = turn-solved (start .args .shape .order) (start .args .m) (factorOf (start .args .layout) (start .args .shape .order) (start .args .shape .block) (now (start .args .matrix))) (now (start .args .rhs)) (loop .q) (loop .from) (loop .from + start .args .shape .order - loop .from) (loop .rhs) _ _
-    (loop .inv .1) (omega arith) (loop .inv .3) (loop .inv .4) (c .before .before .before .before .before .solve-one .ensures) (c .if1 .left) in
-    (omega (arith, c .before .before .before .before .before .before .before .before .loop-test .taken), next-at (start .args .shape .order) (loop .q) (loop .from) (loop .inv .1), search needs, turn .0, turn .1)
+    let turn = turn-solved (start .args .shape .order) (start .args .m)
+    (factorOf (start .args .layout) (start .args .shape .order) (start .args .shape .block) (now (start .args .matrix))) (now (start .args .rhs))
+    (loop .q) (loop .from) (loop .from + start .args .shape .order - loop .from) (loop .rhs) _ _
+    (loop .inv .1) (omega arith) (loop .inv .3) (loop .inv .4) (c .before .before .before .before .before .solve-one .ensures) (c .if1 .left) in (
+      omega (arith, c .before .before .before .before .before .before .before .before .loop-test .taken),
+      next-at (start .args .shape .order) (loop .q)
+          (loop .from) (loop .inv .1),
+      search needs,
+      turn .0,
+      turn .1,
+    )
 
 refusal-requires-2 : tie.Need-refusal-requires-2 Inv-loop μ-loop
 refusal-requires-2 c κs = search needs
@@ -99,7 +123,9 @@ same-length-3 : tie.Need-same-length-3 Inv-loop μ-loop
 same-length-3 c =
     let start = c .before .before .before .before .before .before in
     let loop = c .before .before .loop in
-    ap length (loop .inv .3) ∙ length-solutions (start .args .shape .order) (factorOf (start .args .layout) (start .args .shape .order) (start .args .shape .block) (now (start .args .matrix))) (now (start .args .rhs)) (start .args .m) (loop .q) (start .pre .1) (loop .inv .0)
+    ap length (loop .inv .3) ∙ length-solutions (start .args .shape .order)
+    (factorOf (start .args .layout) (start .args .shape .order) (start .args .shape .block) (now (start .args .matrix))) (now (start .args .rhs))
+    (start .args .m) (loop .q) (start .pre .1) (loop .inv .0)
 
 same-length-4 : tie.Need-same-length-4 Inv-loop μ-loop
 same-length-4 c = search needs
@@ -109,9 +135,14 @@ returns-2 c =
     let start = c .before .before .before .before .before .before in
     let loop = c .before .before .loop in
     let end : loop .q ≡ start .args .m = omega (arith, c .before .loop-test .left, loop .inv .0) in
-    all-solved (start .args .shape .order) (factorOf (start .args .layout) (start .args .shape .order) (start .args .shape .block) (now (start .args .matrix))) (now (start .args .rhs)) (start .args .m) (c .refusal2 .result) (loop .rhs)
-    (subst (λ k. lowestRefusal (judgeRhs (start .args .shape .order) (factorOf (start .args .layout) (start .args .shape .order) (start .args .shape .block) (now (start .args .matrix))) (now (start .args .rhs))) k ≡ success) end (loop .inv .4)) (c .refusal2 .ensures)
-    (loop .inv .3 ∙ ap (λ k. solutions (start .args .shape .order) (factorOf (start .args .layout) (start .args .shape .order) (start .args .shape .block) (now (start .args .matrix))) k (now (start .args .rhs))) end)
+    all-solved (start .args .shape .order) (factorOf (start .args .layout) (start .args .shape .order) (start .args .shape .block)
+    (now (start .args .matrix))) (now (start .args .rhs)) (start .args .m) (c .refusal2 .result) (loop .rhs)
+    (subst (λ k. lowestRefusal (judgeRhs (start .args .shape .order)
+    (factorOf (start .args .layout) (start .args .shape .order) (start .args .shape .block) (now (start .args .matrix))) (now (start .args .rhs))) k ≡
+    success) end (loop .inv .4)) (c .refusal2 .ensures)
+    (loop .inv .3 ∙ ap (λ k. solutions (start .args .shape .order)
+    (factorOf (start .args .layout) (start .args .shape .order) (start .args .shape .block) (now (start .args .matrix))) k (now (start .args .rhs)))
+    end)
 
 pub solve-all-spec : {M : Type 1} → statement M
 solve-all-spec =

@@ -1,8 +1,8 @@
 -- `solve::rhs::solve_cleared` meets its contract. Assumes nothing.
 use mathlib.Core.Path.{_∙_, ap}
+use borrow.Author.Needs.{needs}
 use lib.ListN.{replicate}
 use Rattle.binary64.specs.Kinds.{zero64}
-use borrow.Author.Needs.{needs}
 use Rattle.solve.proofs.rhs.solve_cleared.Statement.{statement}
 use Rattle.solve.proofs.rhs.solve_cleared.Tie as tie
 
@@ -19,7 +19,10 @@ same-length-2 : tie.Need-same-length-2
 same-length-2 c = search needs
 
 returns : tie.Need-returns
-returns c = (c .before .before .before .before .before .before .before .before .solve-all .ensures, c .before .before .clear .ensures ∙ ap (λ k. replicate k zero64) (c .before .before .before .before .before .before .before .before .solve-all .kept .1 .1 .1 .1 .1 .0 ∙ c .before .before .before .before .before .before .before .before .before .before .before .before .before .before .pre .0 .workLength))
+returns c =
+    let p = c .before .before .before .before .before .before .before .before .before .before .before .before .before .before .pre in
+    let solve-all = c .before .before .before .before .before .before .before .before .solve-all in
+    (solve-all .ensures, c .before .before .clear .ensures ∙ ap (λ k. replicate k zero64) (solve-all .kept .1 .1 .1 .1 .1 .0 ∙ p .0 .workLength))
 
 pub solve-cleared-spec : {M : Type 1} → statement M
 solve-cleared-spec =

@@ -1,8 +1,8 @@
 -- `solve::rhs::solve_one` meets its contract: a solution that passes takes the place of its right-hand side. Assumes nothing.
+use borrow.Author.Needs.{needs}
+use denote.Ref.{now}
 use Rattle.solve.specs.Solving.{factorOf}
 use Rattle.solve.proofs.RightSides.{one-refused, one-solved}
-use denote.Ref.{now}
-use borrow.Author.Needs.{needs}
 use Rattle.solve.proofs.rhs.solve_one.Statement.{statement}
 use Rattle.solve.proofs.rhs.solve_one.Tie as tie
 
@@ -37,7 +37,9 @@ returns-2 : tie.Need-returns-2
 returns-2 c =
     let args = c .before .before .before .before .before .before .before .before .before .before .before .before .before .before .before .before .before .before .args in
     one-solved (args .shape .order) (factorOf (args .layout) (args .shape .order) (args .shape .block) (now (args .matrix))) (now (args .rhs)) _ _ _ _
-    (c .before .before .before .before .before .before .before .before .before .before .before .before .copy .ensures) (c .before .before .before .before .before .before .before .before .substitute .ensures) (c .before .before .before .before .before .if1 .left) (c .before .before .copy2 .ensures)
+    (c .before .before .before .before .before .before .before .before .before .before .before .before .copy .ensures)
+    (c .before .before .before .before .before .before .before .before .substitute .ensures) (c .before .before .before .before .before .if1 .left)
+    (c .before .before .copy2 .ensures)
 
 pub solve-one-spec : {M : Type 1} → statement M
 solve-one-spec =

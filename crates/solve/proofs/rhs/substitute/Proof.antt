@@ -1,8 +1,8 @@
 -- `solve::rhs::substitute` meets its contract: what is finite decides, and the second substitution ends in the solution. Assumes nothing.
+use borrow.Author.Needs.{needs}
+use denote.Ref.{now}
 use Rattle.solve.specs.Solving.{factorOf}
 use Rattle.solve.proofs.RightSides.{refused-forward, substituted}
-use denote.Ref.{now}
-use borrow.Author.Needs.{needs}
 use Rattle.solve.proofs.rhs.substitute.Statement.{statement}
 use Rattle.solve.proofs.rhs.substitute.Tie as tie
 
@@ -18,7 +18,8 @@ same-length c = search needs
 returns : tie.Need-returns
 returns c =
     let args = c .before .before .before .before .before .before .before .before .before .args in
-    refused-forward (args .shape .order) (factorOf (args .layout) (args .shape .order) (args .shape .block) (now (args .matrix))) (now (args .work)) _ _ _
+    refused-forward (args .shape .order) (factorOf (args .layout) (args .shape .order) (args .shape .block) (now (args .matrix))) (now (args .work)) _
+    _ _
     (c .before .before .before .before .before .forward .ensures) (c .before .all-finite .ensures) (c .if1 .taken)
 
 backward-requires : tie.Need-backward-requires
@@ -33,8 +34,11 @@ same-length-2 c = search needs
 returns-2 : tie.Need-returns-2
 returns-2 c =
     let args = c .before .before .before .before .before .before .before .before .before .before .before .before .before .before .before .args in
-    substituted (args .shape .order) (factorOf (args .layout) (args .shape .order) (args .shape .block) (now (args .matrix))) (now (args .work)) _ _ _ _
-    (c .before .before .before .before .before .before .before .before .before .before .before .forward .ensures) (c .before .before .before .before .before .before .before .all-finite .ensures) (c .before .before .before .before .before .before .if1 .left) (c .before .before .before .before .backward .ensures) (c .all-finite2 .ensures)
+    substituted (args .shape .order) (factorOf (args .layout) (args .shape .order) (args .shape .block) (now (args .matrix))) (now (args .work)) _ _ _
+    _
+    (c .before .before .before .before .before .before .before .before .before .before .before .forward .ensures)
+    (c .before .before .before .before .before .before .before .all-finite .ensures) (c .before .before .before .before .before .before .if1 .left)
+    (c .before .before .before .before .backward .ensures) (c .all-finite2 .ensures)
 
 pub substitute-spec : {M : Type 1} → statement M
 substitute-spec =
