@@ -76,7 +76,8 @@ returns-2 c =
     let done = c .before .before .before .before .factor-blocks-cleared in
     rw (done .ensures .1)
     (blocks-done (a .shape .order) (a .shape .block) (a .matrix .now) (a .work .now) (checks .result) (checks .ensures)
-    (accepted-of (accepted .result) (checks .result) (accepted .ensures) (c .before .before .before .before .before .before .before .before .if1 .left))
+    (accepted-of (accepted .result) (checks .result) (accepted .ensures)
+    (c .before .before .before .before .before .before .before .before .if1 .left))
     (block-work .result) (block-work .ensures) (done .result) (done .last .0) (done .ensures .0))
 
 pub factor-spec : {M : Type 1} → statement M

@@ -10,7 +10,8 @@ use Rattle.blocked_factor.proofs.factor_block.Statement.{statement}
 use Rattle.blocked_factor.proofs.factor_block.Tie as tie
 
 abbrev Inv-loop : tie.InvT-loop
-Inv-loop part₀ spare₀ c width rows s0₀ part spare s0 = (s0 ≤ width) × (length spare ≡ length spare₀) × Running c width rows (ColumnsStage c width 0 part₀) (ColumnsStage c width s0 part) 0 s0 part₀ part
+Inv-loop part₀ spare₀ c width rows s0₀ part spare s0 = (s0 ≤ width) × (length spare ≡ length spare₀) × Running c width rows
+    (ColumnsStage c width 0 part₀) (ColumnsStage c width s0 part) 0 s0 part₀ part
 
 abbrev μ-loop : tie.MeasureT-loop
 μ-loop part₀ spare₀ c width rows s0₀ part spare s0 = width - s0
@@ -51,7 +52,8 @@ returns c =
     let least = c .before .before .before .before .before .before .before .before .before .least in
     let a = c .before .before .before .before .before .before .before .before .before .before .before .before .before .before .args in
     let l = c .before .before .before .before .before .before .before .before .before .before .before .loop in
-    factored-refused (a .c) (a .width) (a .rows) (l .s0) (l .s0 + least .result) (a .part .now) (l .part) _ (factor-panel .result) (l .inv .2) (factor-panel .ensures)
+    factored-refused (a .c) (a .width) (a .rows) (l .s0) (l .s0 + least .result) (a .part .now) (l .part) _ (factor-panel .result) (l .inv .2)
+    (factor-panel .ensures)
     (omega (arith, least .ensures, c .before .before .before .before .before .before .before .before .before .before .loop-test .taken))
     (refused-of (c .before .accepted .result) (factor-panel .result) (c .before .accepted .ensures) (c .if1 .taken))
 
@@ -80,7 +82,8 @@ loop-again c =
     let l = c .before .before .before .before .before .before .before .before .before .before .before .loop in (
       omega (arith, least .ensures, c .before .before .before .before .before .before .before .before .before .before .loop-test .taken),
       (factor-panel .kept .1 .0 ∙ l .inv .1),
-      running-panel (a .c) (a .width) (a .rows) (l .s0) (l .s0 + least .result) (a .part .now) (l .part) _ (factor-panel .result) (l .inv .2) (factor-panel .ensures)
+      running-panel (a .c) (a .width) (a .rows) (l .s0) (l .s0 + least .result) (a .part .now) (l .part) _ (factor-panel .result) (l .inv .2)
+          (factor-panel .ensures)
           (accepted-of (c .before .accepted .result) (factor-panel .result) (c .before .accepted .ensures) (c .if1 .left)),
     )
 

@@ -12,7 +12,8 @@ use Rattle.blocked_factor.proofs.factor_blocks.Statement.{statement}
 use Rattle.blocked_factor.proofs.factor_blocks.Tie as tie
 
 abbrev Inv-loop : tie.InvT-loop
-Inv-loop m₀ work₀ shape order c₀ m work c = (c ≤ shape .order) × (c < shape .order → blockOf (shape .block) c ≡ c) × (length work ≡ length work₀) × Reached (shape .order) (shape .block) m₀ c m
+Inv-loop m₀ work₀ shape order c₀ m work c = (c ≤ shape .order) × (c < shape .order → blockOf (shape .block) c ≡ c) ×
+    (length work ≡ length work₀) × Reached (shape .order) (shape .block) m₀ c m
 
 abbrev μ-loop : tie.MeasureT-loop
 μ-loop m₀ work₀ shape order c₀ m work c = shape .order - c
@@ -23,8 +24,11 @@ loop-holds c = (omega arith, (λ h. omega (arith, block-of-le (c .before .before
 factor-step-requires : tie.Need-factor-step-requires Inv-loop μ-loop
 factor-step-requires c κs =
     let pre = c .before .before .before .before .before .before .pre in
-    let l = c .before .before .before .loop in
-    (block-at (l .c) _ (pre) (l .inv .3 .kept) (c .before .before .loop-test .taken) (l .inv .1 (c .before .before .loop-test .taken)), (l .inv .2 ∙ pre .work))
+    let l = c .before .before .before .loop in (
+      block-at (l .c) _ (pre) (l .inv .3 .kept) (c .before .before .loop-test .taken)
+          (l .inv .1 (c .before .before .loop-test .taken)),
+      (l .inv .2 ∙ pre .work),
+    )
 
 accepted-requires : tie.Need-accepted-requires Inv-loop μ-loop
 accepted-requires c κs = search needs
@@ -46,7 +50,8 @@ returns c =
     let pre = c .before .before .before .before .before .before .before .before .before .before .before .before .before .pre in
     let a = c .before .before .before .before .before .before .before .before .before .before .before .before .before .args in
     let l = c .before .before .before .before .before .before .before .before .before .before .loop in
-    blocks-refused (a .m .now) (l .m) _ (factor-step .result) (block-at (l .c) _ (pre) (l .inv .3 .kept) (loop-test .taken) (l .inv .1 (loop-test .taken))) (l .inv .3) (factor-step .ensures)
+    blocks-refused (a .m .now) (l .m) _ (factor-step .result) (block-at (l .c) _ (pre) (l .inv .3 .kept) (loop-test .taken)
+    (l .inv .1 (loop-test .taken))) (l .inv .3) (factor-step .ensures)
     (refused-of (c .before .accepted .result) (factor-step .result) (c .before .accepted .ensures) (c .if1 .taken))
 
 block-width-requires : tie.Need-block-width-requires Inv-loop μ-loop

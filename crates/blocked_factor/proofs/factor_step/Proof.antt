@@ -47,7 +47,8 @@ save-requires c κs =
       size-le (pre .0),
       block-room (pre .0),
       c .before .before .before .before .block-start .ensures,
-      c .before .before .block-start2 .ensures ∙ ap (λ (w : ℕ). blockStart (a .shape .order) (a .c + w)) (c .before .before .before .block-width .ensures),
+      c .before .before .block-start2 .ensures ∙ ap (λ (w : ℕ). blockStart (a .shape .order) (a .c + w))
+          (c .before .before .before .block-width .ensures),
       block-end (a .shape .order) (a .c) (width (a .shape .order) (a .shape .block) (a .c)) (inside-le (pre .0)),
     )
 
@@ -55,7 +56,8 @@ factor-kept-requires : tie.Need-factor-kept-requires
 factor-kept-requires c κs =
     let pre = c .before .before .before .before .before .before .before .before .before .before .before .before .pre in
     let a = c .before .before .before .before .before .before .before .before .before .before .before .before .args in
-    let end = c .before .before .before .before .before .before .before .block-start2 .ensures ∙ ap (λ (w : ℕ). blockStart (a .shape .order) (a .c + w)) (c .before .before .before .before .before .before .before .before .block-width .ensures) in (
+    let end = c .before .before .before .before .before .before .before .block-start2 .ensures ∙ ap
+    (λ (w : ℕ). blockStart (a .shape .order) (a .c + w)) (c .before .before .before .before .before .before .before .before .block-width .ensures) in (
       pre .0,
       omega (
         arith,
@@ -103,10 +105,13 @@ returns c =
     let accepted = c .before .before .before .before .before .before .accepted in
     let pre = c .before .before .before .before .before .before .before .before .before .before .before .before .before .before .before .before .before .before .before .before .before .before .before .before .pre in
     let a = c .before .before .before .before .before .before .before .before .before .before .before .before .before .before .before .before .before .before .before .before .before .before .before .before .args in
-    let end = block-start2 .ensures ∙ ap (λ (w : ℕ). blockStart (a .shape .order) (a .c + w)) (c .before .before .before .before .before .before .before .before .before .before .before .before .before .before .before .before .before .before .before .before .block-width .ensures) in
-    done-refused (a .m .now) (factor-kept .last .0) (factor-kept .result) (pre .0) (factor-kept .ensures .0) _ (save .last .1 .0) (factor-kept .last .1 .0)
+    let end = block-start2 .ensures ∙ ap (λ (w : ℕ). blockStart (a .shape .order) (a .c + w))
+    (c .before .before .before .before .before .before .before .before .before .before .before .before .before .before .before .before .before .before .before .before .block-width .ensures) in
+    done-refused (a .m .now) (factor-kept .last .0) (factor-kept .result) (pre .0) (factor-kept .ensures .0) _ (save .last .1 .0)
+    (factor-kept .last .1 .0)
     (block-start .result) (block-start2 .result - block-start .result) (block-start .ensures) (omega (arith, block-start .ensures, end))
-    (refused-of (accepted .result) (factor-kept .result) (accepted .ensures) (c .before .before .before .before .before .if1 .taken)) (save .ensures) (factor-kept .ensures .1) (c .before .before .restore .ensures)
+    (refused-of (accepted .result) (factor-kept .result) (accepted .ensures) (c .before .before .before .before .before .if1 .taken)) (save .ensures)
+    (factor-kept .ensures .1) (c .before .before .restore .ensures)
 
 same-length-3 : tie.Need-same-length-3
 same-length-3 c = search needs

@@ -126,7 +126,8 @@ returns c =
     let pre = c .before .before .before .before .before .before .before .before .pre in
     let a = c .before .before .before .before .before .before .before .before .args in
     column-pivot-refused (a .c) (a .width) (a .rows) (a .s0) (a .s) (a .part .now) _
-    (ap judged (sym (pivot-less (a .width) (a .s0) (a .s) (place-in-block .result) (a .part .now) (minus-products .result) (place-in-block .ensures) (omega (
+    (ap judged (sym (pivot-less (a .width) (a .s0) (a .s) (place-in-block .result) (a .part .now) (minus-products .result) (place-in-block .ensures)
+    (omega (
       arith,
       pre,
     )) (minus-products .ensures)))
@@ -147,7 +148,8 @@ returns-2 c =
     let place : place-in-block .result + a .s0 + (a .s - a .s0) ≡ rowStart (a .width) (a .s) + a .s = omega (arith, place-in-block .ensures, pre) in
     rw place
     (column-accepted (a .c) (a .width) (a .rows) (a .s0) (a .s) (a .part .now) (root .given .0 .0) (finish-rows .last .0)
-    (ap judged (sym (pivot-less (a .width) (a .s0) (a .s) (place-in-block .result) (a .part .now) (minus-products .result) (place-in-block .ensures) (omega (
+    (ap judged (sym (pivot-less (a .width) (a .s0) (a .s) (place-in-block .result) (a .part .now) (minus-products .result) (place-in-block .ensures)
+    (omega (
       arith,
       pre,
     )) (minus-products .ensures)))
@@ -167,7 +169,8 @@ returns-3 c =
     let pre = c .before .before .before .before .before .before .before .before .before .before .before .before .before .pre in
     let a = c .before .before .before .before .before .before .before .before .before .before .before .before .before .args in
     column-rows-refused (a .c) (a .width) (a .rows) (a .s0) (a .s) (a .part .now) (root .given .0 .0) (finish-rows .last .0)
-    (ap judged (sym (pivot-less (a .width) (a .s0) (a .s) (place-in-block .result) (a .part .now) (minus-products .result) (place-in-block .ensures) (omega (
+    (ap judged (sym (pivot-less (a .width) (a .s0) (a .s) (place-in-block .result) (a .part .now) (minus-products .result) (place-in-block .ensures)
+    (omega (
       arith,
       pre,
     )) (minus-products .ensures)))

@@ -10,7 +10,8 @@ use Rattle.blocked_factor.proofs.finish_panel.Statement.{statement}
 use Rattle.blocked_factor.proofs.finish_panel.Tie as tie
 
 abbrev Inv-loop : tie.InvT-loop
-Inv-loop part₀ c width rows s0 e s₀ part s = (s0 ≤ s) × (s ≤ e) × Running c width rows (PanelStage c width s0 e s0 part₀) (PanelStage c width s0 e s part) s0 s part₀ part
+Inv-loop part₀ c width rows s0 e s₀ part s = (s0 ≤ s) × (s ≤ e) × Running c width rows (PanelStage c width s0 e s0 part₀)
+    (PanelStage c width s0 e s part) s0 s part₀ part
 
 abbrev μ-loop : tie.MeasureT-loop
 μ-loop part₀ c width rows s0 e s₀ part s = e - s
@@ -37,7 +38,8 @@ returns c =
     let pre = c .before .before .before .before .before .before .before .before .before .pre in
     let a = c .before .before .before .before .before .before .before .before .before .args in
     let l = c .before .before .before .before .before .before .before .loop in
-    finished-refused (a .c) (a .width) (a .rows) (a .s0) (a .e) (l .s) (a .part .now) (l .part) _ (finish-column .result) (l .inv .2) (l .inv .0) (c .before .before .before .before .before .before .loop-test .taken)
+    finished-refused (a .c) (a .width) (a .rows) (a .s0) (a .e) (l .s) (a .part .now) (l .part) _ (finish-column .result) (l .inv .2) (l .inv .0)
+    (c .before .before .before .before .before .before .loop-test .taken)
     (omega (arith, pre)) (omega (arith, pre)) (finish-column .ensures)
     (refused-of (c .before .accepted .result) (finish-column .result) (c .before .accepted .ensures) (c .if1 .taken))
 
@@ -58,7 +60,8 @@ loop-again c =
     let l = c .before .before .before .before .before .before .before .loop in (
       omega (arith, l .inv .0),
       omega (arith, loop-test .taken),
-      running-column (a .c) (a .width) (a .rows) (a .s0) (a .e) (l .s) (a .part .now) (l .part) _ (finish-column .result) (l .inv .2) (l .inv .0) (loop-test .taken)
+      running-column (a .c) (a .width) (a .rows) (a .s0) (a .e) (l .s) (a .part .now) (l .part) _ (finish-column .result) (l .inv .2) (l .inv .0)
+          (loop-test .taken)
           (omega (arith, pre)) (omega (arith, pre)) (finish-column .ensures)
           (accepted-of (c .before .accepted .result) (finish-column .result) (c .before .accepted .ensures) (c .if1 .left)),
     )

@@ -118,7 +118,8 @@ returns c =
       pre,
     )) (omega (arith, pre)) (omega (arith, pre)) (omega (arith, pre))
     (div binary64 (c .before .minus-products .result) (a .root))
-    (ap (λ (v : Float). div binary64 v (a .root)) (rw (place-in-block .ensures, c .before .before .before .place-in-block2 .ensures) at (c .before .minus-products .ensures))))
+    (ap (λ (v : Float). div binary64 v (a .root)) (rw (place-in-block .ensures, c .before .before .before .place-in-block2 .ensures) at
+    (c .before .minus-products .ensures))))
 
 pub finish-row-spec : {M : Type 1} → statement M
 finish-row-spec =

@@ -83,7 +83,8 @@ returns c =
       pre,
     )) (omega (arith, pre)) (omega (arith, pre))
     (row-places8 .ensures) (a .root) (a .part .now) _ (quotients8 .result) (quotients8 .ensures .0)
-    (rw (c .before .before .before .before .before .before .before .before .place-in-block .ensures) at (quotients8 .ensures .1)) (c .before .before .before .before .scatter8 .ensures))
+    (rw (c .before .before .before .before .before .before .before .before .place-in-block .ensures) at (quotients8 .ensures .1))
+    (c .before .before .before .before .scatter8 .ensures))
 
 pub finish-rows8-spec : {M : Type 1} → statement M
 finish-rows8-spec =

@@ -12,7 +12,8 @@ use Rattle.blocked_factor.proofs.row_places8.Statement.{statement}
 use Rattle.blocked_factor.proofs.row_places8.Tie as tie
 
 abbrev Inv-loop : tie.InvT-loop
-Inv-loop width r s places₀ at₀ k₀ places at k = (k ≤ 8) × (at ≡ rowStart width (r + k) + s) × (length places₀ ≡ 8) × Stored 0 (λ q. rowStart width (r + q) + s) places₀ k places
+Inv-loop width r s places₀ at₀ k₀ places at k = (k ≤ 8) × (at ≡ rowStart width (r + k) + s) × (length places₀ ≡ 8) × Stored 0
+    (λ q. rowStart width (r + q) + s) places₀ k places
 
 abbrev μ-loop : tie.MeasureT-loop
 μ-loop width r s places₀ at₀ k₀ places at k = 8 - k

@@ -12,7 +12,9 @@ use Rattle.blocked_factor.proofs.update_by_all.Statement.{statement}
 use Rattle.blocked_factor.proofs.update_by_all.Tie as tie
 
 abbrev Inv-loop : tie.InvT-loop
-Inv-loop m₀ spare₀ shape c order block target k₀ m spare k = (k ≤ c) × (blockOf (shape .block) k ≡ k) × (length spare ≡ length spare₀) × PanelUpdated (blockStart (shape .order) c) (width (shape .order) (shape .block) c) (shape .order - c) 0 (width (shape .order) (shape .block) c) (rowOf (shape .order) (shape .block) c m₀) k m₀ m
+Inv-loop m₀ spare₀ shape c order block target k₀ m spare k = (k ≤ c) × (blockOf (shape .block) k ≡ k) × (length spare ≡ length spare₀) × PanelUpdated
+    (blockStart (shape .order) c) (width (shape .order) (shape .block) c) (shape .order - c) 0 (width (shape .order) (shape .block) c)
+    (rowOf (shape .order) (shape .block) c m₀) k m₀ m
 
 abbrev μ-loop : tie.MeasureT-loop
 μ-loop m₀ spare₀ shape c order block target k₀ m spare k = c - k

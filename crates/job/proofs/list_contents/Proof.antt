@@ -39,7 +39,9 @@ returns : tie.Need-returns
 returns c =
     let read-contents = c .before .before .before .before .before .before .before .before .before .before .before .read-contents in
     let a = c .before .before .before .before .before .before .before .before .before .before .before .before .before .before .before .before .before .before .args in
-    as-text (ap listed (sym (ap (parsedAs (record { sizes = (a .sizes); matrix = (read-contents .last .1 .1 .1 .0); rhs = (read-contents .last .1 .1 .1 .1 .0) })) (c .before .before .before .before .before .place .given .1)) ∙ (read-contents .ensures))) (c .before .before .put-end .ensures)
+    as-text (ap listed (sym (ap (parsedAs
+    (record { sizes = (a .sizes); matrix = (read-contents .last .1 .1 .1 .0); rhs = (read-contents .last .1 .1 .1 .1 .0) }))
+    (c .before .before .before .before .before .place .given .1)) ∙ (read-contents .ensures))) (c .before .before .put-end .ensures)
 
 same-length-4 : tie.Need-same-length-4
 same-length-4 c = search needs
@@ -54,7 +56,10 @@ returns-2 : tie.Need-returns-2
 returns-2 c =
     let read-contents = c .before .before .before .before .before .before .before .before .before .before .before .before .before .before .before .before .read-contents in
     let a = c .before .before .before .before .before .before .before .before .before .before .before .before .before .before .before .before .before .before .before .before .before .before .before .args in
-    as-text (ap listed (sym (ap (parsedAs (record { sizes = (a .sizes); matrix = (read-contents .last .1 .1 .1 .0); rhs = (read-contents .last .1 .1 .1 .1 .0) })) (c .before .before .before .before .before .before .before .before .before .before .enum-told .given .1)) ∙ (read-contents .ensures))) (c .before .before .before .before .before .before .list-solved .ensures)
+    as-text (ap listed (sym (ap (parsedAs
+    (record { sizes = (a .sizes); matrix = (read-contents .last .1 .1 .1 .0); rhs = (read-contents .last .1 .1 .1 .1 .0) }))
+    (c .before .before .before .before .before .before .before .before .before .before .enum-told .given .1)) ∙ (read-contents .ensures)))
+    (c .before .before .before .before .before .before .list-solved .ensures)
 
 pub list-contents-spec : {M : Type 1} → statement M
 list-contents-spec =

@@ -31,7 +31,8 @@ same-length c = search needs
 returns : tie.Need-returns
 returns c =
     let a = c .before .before .before .before .before .before .before .before .before .before .args in
-    as-text (after-map (a .file .now) (a .sizes) (sym (ap (parsedAs tt) (c .before .before .before .before .before .place .given .1)) ∙ (c .before .before .before .before .before .before .before .read-map .ensures))) (c .before .before .put-end .ensures)
+    as-text (after-map (a .file .now) (a .sizes) (sym (ap (parsedAs tt) (c .before .before .before .before .before .place .given .1)) ∙
+    (c .before .before .before .before .before .before .before .read-map .ensures))) (c .before .before .put-end .ensures)
 
 same-length-2 : tie.Need-same-length-2
 same-length-2 c = search needs
@@ -39,7 +40,8 @@ same-length-2 c = search needs
 returns-2 : tie.Need-returns-2
 returns-2 c =
     let a = c .before .before .before .before .before .before .before .before .before .before .args in
-    as-text (after-map (a .file .now) (a .sizes) (sym (ap (parsedAs tt) (c .before .before .before .before .before .next .given .1)) ∙ (c .before .before .before .before .before .before .before .read-map .ensures))) (c .before .before .list-values .ensures)
+    as-text (after-map (a .file .now) (a .sizes) (sym (ap (parsedAs tt) (c .before .before .before .before .before .next .given .1)) ∙
+    (c .before .before .before .before .before .before .before .read-map .ensures))) (c .before .before .list-values .ensures)
 
 pub list-mapped-spec : {M : Type 1} → statement M
 list-mapped-spec =

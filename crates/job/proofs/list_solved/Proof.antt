@@ -18,7 +18,14 @@ put-result-requires c κs =
     omega (
       arith,
       (pre .1 .1 .1),
-      result-short (a .sizes) (pre .0) (solve-job .result) (solve-job .last .1 .0) (solve-job .last .1 .1 .0) (job-success-of _ _ _ _ (solve-job .ensures)) (omega (arith, (solve-job .kept .1 .0), (pre .1 .0), triangle-small (a .sizes .order) (pre .0 .order))) (omega (arith, (solve-job .kept .1 .1 .0), (pre .1 .1 .0), values-small (a .sizes .order) (a .sizes .count) (pre .0 .order) (pre .0 .count))),
+      result-short (a .sizes) (pre .0) (solve-job .result) (solve-job .last .1 .0) (solve-job .last .1 .1 .0)
+          (job-success-of _ _ _ _ (solve-job .ensures)) (omega (
+            arith,
+            (solve-job .kept .1 .0),
+            (pre .1 .0),
+            triangle-small (a .sizes .order) (pre .0 .order),
+          ))
+          (omega (arith, (solve-job .kept .1 .1 .0), (pre .1 .1 .0), values-small (a .sizes .order) (a .sizes .count) (pre .0 .order) (pre .0 .count))),
     )
 
 same-length : tie.Need-same-length
@@ -31,7 +38,9 @@ same-length-3 : tie.Need-same-length-3
 same-length-3 c = search needs
 
 returns : tie.Need-returns
-returns c = as-text (solved-lines _ _ _ _ (c .before .before .before .before .before .before .before .before .before .before .solve-job .ensures)) (c .before .before .put-result .ensures)
+returns c =
+    as-text (solved-lines _ _ _ _ (c .before .before .before .before .before .before .before .before .before .before .solve-job .ensures))
+    (c .before .before .put-result .ensures)
 
 pub list-solved-spec : {M : Type 1} → statement M
 list-solved-spec =

@@ -49,7 +49,8 @@ slice-aggregate-list-contents-2 : tie.Need-slice-aggregate-list-contents-2
 slice-aggregate-list-contents-2 c =
     let a = c .before .before .before .before .before .before .before .args in
     let pre = c .before .before .before .before .before .before .before .pre in
-    length-zeros 1024 ((a .sizes .order) * (a .sizes .count)) (ofBits binary64 0) (values-small (a .sizes .order) (a .sizes .count) (pre .0 .order) (pre .0 .count))
+    length-zeros 1024 ((a .sizes .order) * (a .sizes .count)) (ofBits binary64 0)
+    (values-small (a .sizes .order) (a .sizes .count) (pre .0 .order) (pre .0 .count))
 
 list-contents-requires : tie.Need-list-contents-requires
 list-contents-requires c κs =
@@ -64,7 +65,11 @@ list-contents-requires c κs =
           ap triangle (new .ensures .0),
           triangle-small (a .sizes .order) (pre .0 .order),
         ))) ∙ ((c .before .before .before .before .triangle .ensures) ∙ ap triangle (new .ensures .0)),
-        (sym (length-zeros 1024 ((a .sizes .order) * (a .sizes .count)) (ofBits binary64 0) (values-small (a .sizes .order) (a .sizes .count) (pre .0 .order) (pre .0 .count))), (pre .1)),
+        (
+          sym (length-zeros 1024 ((a .sizes .order) * (a .sizes .count)) (ofBits binary64 0)
+              (values-small (a .sizes .order) (a .sizes .count) (pre .0 .order) (pre .0 .count))),
+          (pre .1),
+        ),
       ),
     )
 

@@ -27,8 +27,12 @@ enum-known-sizes c = search needs
 
 list-mapped-requires : tie.Need-list-mapped-requires
 list-mapped-requires c κs =
-    let a = c .before .before .before .before .before .before .before .before .args in
-    (sizes-bounds (a .file .now) (c .before .before .sizes .given .0 .0) (c .before .before .sizes .given .0 .1 .0) (sym (sym (ap parsedSizes (c .before .before .sizes .given .1)) ∙ (c .before .before .before .before .read-sizes .ensures))), (c .before .before .before .before .before .if1 .left))
+    let a = c .before .before .before .before .before .before .before .before .args in (
+      sizes-bounds (a .file .now) (c .before .before .sizes .given .0 .0) (c .before .before .sizes .given .0 .1 .0)
+          (sym (sym (ap parsedSizes (c .before .before .sizes .given .1)) ∙
+          (c .before .before .before .before .read-sizes .ensures))),
+      (c .before .before .before .before .before .if1 .left),
+    )
 
 same-length : tie.Need-same-length
 same-length c = search needs
@@ -37,7 +41,10 @@ returns-2 : tie.Need-returns-2
 returns-2 c =
     let a = c .before .before .before .before .before .before .before .before .before .before .before .args in
     let place = c .before .before .before .before .before .place in
-    as-text (listing-fault (a .file .now) (a .out .now) (place .given .0 .0) (c .before .before .before .before .before .before .before .before .if1 .left) (sym (ap parsedSizes (place .given .1)) ∙ (c .before .before .before .before .before .before .before .read-sizes .ensures))) (c .before .before .put-end .ensures)
+    as-text (listing-fault (a .file .now) (a .out .now) (place .given .0 .0)
+    (c .before .before .before .before .before .before .before .before .if1 .left)
+    (sym (ap parsedSizes (place .given .1)) ∙ (c .before .before .before .before .before .before .before .read-sizes .ensures)))
+    (c .before .before .put-end .ensures)
 
 same-length-2 : tie.Need-same-length-2
 same-length-2 c = search needs
@@ -45,7 +52,10 @@ same-length-2 c = search needs
 returns-3 : tie.Need-returns-3
 returns-3 c =
     let a = c .before .before .before .before .before .before .before .before .before .before .before .args in
-    as-text (listing-sizes (a .file .now) (a .out .now) (c .before .before .before .before .before .sizes .given .0 .0) (c .before .before .before .before .before .sizes .given .0 .1 .0) (c .before .before .before .before .before .before .before .before .if1 .left) (sym (ap parsedSizes (c .before .before .before .before .before .sizes .given .1)) ∙ (c .before .before .before .before .before .before .before .read-sizes .ensures))) (c .before .before .list-mapped .ensures)
+    as-text (listing-sizes (a .file .now) (a .out .now) (c .before .before .before .before .before .sizes .given .0 .0)
+    (c .before .before .before .before .before .sizes .given .0 .1 .0) (c .before .before .before .before .before .before .before .before .if1 .left)
+    (sym (ap parsedSizes (c .before .before .before .before .before .sizes .given .1)) ∙
+    (c .before .before .before .before .before .before .before .read-sizes .ensures))) (c .before .before .list-mapped .ensures)
 
 pub run-spec : {M : Type 1} → statement M
 run-spec =

@@ -27,7 +27,8 @@ same-length-3 c = search needs
 returns-2 : tie.Need-returns-2
 returns-2 c =
     let check-finite = c .before .before .before .before .before .before .check-finite in
-    refused-by-8 _ _ _ _ (c .if2 .taken) (check-finite .result) (check-finite .ensures) (c .before .before .before .before .if1 .left) (c .before .before .check-finite2 .ensures)
+    refused-by-8 _ _ _ _ (c .if2 .taken) (check-finite .result) (check-finite .ensures) (c .before .before .before .before .if1 .left)
+    (c .before .before .check-finite2 .ensures)
 
 new-requires : tie.Need-new-requires
 new-requires c κs = search needs
@@ -73,7 +74,8 @@ returns-3 c =
     let check-finite = c .before .before .before .before .before .before .before .before .before .before .before .before .before .before .before .before .before .before .check-finite in
     let check-finite2 = c .before .before .before .before .before .before .before .before .before .before .before .before .before .before .check-finite2 in
     let pre = c .before .before .before .before .before .before .before .before .before .before .before .before .before .before .before .before .before .before .before .before .before .before .pre in
-    job-ran _ (check-finite .result) (check-finite2 .result) (record { factorResult = (blocked-pipeline .result .factor); solverResult = (blocked-pipeline .result .solver); matrix = (blocked-pipeline .last .1 .1 .0); rhs = (blocked-pipeline .last .1 .1 .1 .0); work = (blocked-pipeline .last .1 .1 .1 .1 .0) }) (check-finite .ensures) (c .before .before .before .before .before .before .before .before .before .before .before .before .before .before .before .before .if1 .left) (check-finite2 .ensures) (c .before .before .before .before .before .before .before .before .before .before .before .before .if2 .left) (ended-as _ (new .result .order) (new .result .block) (block-work .result) _ (new .ensures .0) (new .ensures .1) (block-work .ensures) (omega (
+    job-ran _ (check-finite .result) (check-finite2 .result)
+    (record { factorResult = (blocked-pipeline .result .factor); solverResult = (blocked-pipeline .result .solver); matrix = (blocked-pipeline .last .1 .1 .0); rhs = (blocked-pipeline .last .1 .1 .1 .0); work = (blocked-pipeline .last .1 .1 .1 .1 .0) }) (check-finite .ensures) (c .before .before .before .before .before .before .before .before .before .before .before .before .before .before .before .before .if1 .left) (check-finite2 .ensures) (c .before .before .before .before .before .before .before .before .before .before .before .before .if2 .left) (ended-as _ (new .result .order) (new .result .block) (block-work .result) _ (new .ensures .0) (new .ensures .1) (block-work .ensures) (omega (
       arith,
       (block-work .ensures),
       work-small (new .result .order) (new .result .block) (omega (arith, (new .ensures .0), (pre .order))),

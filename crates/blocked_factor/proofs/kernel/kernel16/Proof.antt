@@ -12,7 +12,8 @@ use Rattle.blocked_factor.proofs.kernel.kernel16.Tie as tie
 use Rattle.kernels.proofs.step16.Reads as step16-reads
 
 abbrev Inv-loop : tie.InvT-loop
-Inv-loop m x panel count lanes₀ k₀ lanes k = (k ≤ count) × ((t : ℕ) → t < 16 → getD lanes t nan ≡ minusProducts (rowAt m x) (laneAt panel t) k (getD lanes₀ t nan))
+Inv-loop m x panel count lanes₀ k₀ lanes k = (k ≤ count) × ((t : ℕ) → t < 16 → getD lanes t nan ≡ minusProducts (rowAt m x) (laneAt panel t) k
+    (getD lanes₀ t nan))
 
 abbrev μ-loop : tie.MeasureT-loop
 μ-loop m x panel count lanes₀ k₀ lanes k = count - k

@@ -51,8 +51,11 @@ loop-again c =
     let m = a .m .now in
     let x = a .x in
     let y = a .y in
-    let k = l .k in
-    (omega arith, ap (λ (v : Float). sub binary64 v (mul binary64 (rowAt m x k) (rowAt m y k))) (l .inv .1) ∙ sym (minus-next (rowAt m x) (rowAt m y) k (a .t)))
+    let k = l .k in (
+      omega arith,
+      ap (λ (v : Float). sub binary64 v (mul binary64 (rowAt m x k) (rowAt m y k))) (l .inv .1) ∙ sym
+          (minus-next (rowAt m x) (rowAt m y) k (a .t)),
+    )
 
 returns : tie.Need-returns Inv-loop μ-loop
 returns c =

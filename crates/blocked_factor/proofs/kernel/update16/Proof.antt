@@ -22,7 +22,8 @@ returns c =
     let load16 = c .before .before .before .before .before .before .load16 in
     let kernel16 = c .before .before .before .before .kernel16 in
     let a = c .before .before .before .before .before .before .before .before .before .before .args in
-    filled-lanes (a .m .now) _ (a .panel .now) (load16 .result) (kernel16 .result) (a .x) (a .y) 16 (a .count) (omega arith) (load16 .ensures) (kernel16 .ensures) (c .before .before .store16 .ensures)
+    filled-lanes (a .m .now) _ (a .panel .now) (load16 .result) (kernel16 .result) (a .x) (a .y) 16 (a .count) (omega arith) (load16 .ensures)
+    (kernel16 .ensures) (c .before .before .store16 .ensures)
 
 pub update16-spec : {M : Type 1} → statement M
 update16-spec =

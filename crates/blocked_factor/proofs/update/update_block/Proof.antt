@@ -10,7 +10,8 @@ use Rattle.blocked_factor.proofs.update.update_block.Statement.{stateme
 use Rattle.blocked_factor.proofs.update.update_block.Tie as tie
 
 abbrev Inv-loop : tie.InvT-loop
-Inv-loop m₀ spare₀ target source count width s0₀ m spare s0 = (s0 ≤ width) × (length spare ≡ length spare₀) × PanelUpdated (target .start) width (target .rows) 0 s0 (sourceAt m₀ (source .start) (source .width) (source .rows - target .rows)) count m₀ m
+Inv-loop m₀ spare₀ target source count width s0₀ m spare s0 = (s0 ≤ width) × (length spare ≡ length spare₀) × PanelUpdated (target .start) width
+    (target .rows) 0 s0 (sourceAt m₀ (source .start) (source .width) (source .rows - target .rows)) count m₀ m
 
 abbrev μ-loop : tie.MeasureT-loop
 μ-loop m₀ spare₀ target source count width s0₀ m spare s0 = width - s0

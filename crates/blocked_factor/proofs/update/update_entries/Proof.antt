@@ -13,7 +13,8 @@ use Rattle.blocked_factor.proofs.update.update_entries.Statement.{state
 use Rattle.blocked_factor.proofs.update.update_entries.Tie as tie
 
 abbrev Inv-loop : tie.InvT-loop
-Inv-loop m₀ first x y len count start width t₀ m t = (t ≤ len) × Filled nan y t (λ u. minusProducts (rowAt m₀ x) (rowAt m₀ (start + rowStart width (first + u))) count (getD m₀ (y + u) nan)) m₀ m
+Inv-loop m₀ first x y len count start width t₀ m t = (t ≤ len) × Filled nan y t
+    (λ u. minusProducts (rowAt m₀ x) (rowAt m₀ (start + rowStart width (first + u))) count (getD m₀ (y + u) nan)) m₀ m
 
 abbrev μ-loop : tie.MeasureT-loop
 μ-loop m₀ first x y len count start width t₀ m t = len - t

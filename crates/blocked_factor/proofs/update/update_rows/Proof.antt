@@ -115,7 +115,8 @@ update-row-requires c κs =
     let pre = c .before .before .before .before .before .before .before .before .before .before .before .before .before .pre in
     let l = c .before .before .before .before .loop in
     rw (l .inv .2)
-    (row-ready (a .m .now) (l .m) (l .m) (pre .0) (l .r) (l .inv .0) (c .before .before .if1 .taken) (l .inv .4) (a .panel .now) (a .packed) _ _ (pre .1 .0) (pre .1 .1)
+    (row-ready (a .m .now) (l .m) (l .m) (pre .0) (l .r) (l .inv .0) (c .before .before .if1 .taken) (l .inv .4) (a .panel .now) (a .packed) _ _
+    (pre .1 .0) (pre .1 .1)
     (l .inv .3) (c .before .least .ensures))
 
 add-r : tie.Need-add-r Inv-loop μ-loop
@@ -194,7 +195,8 @@ loop-again c =
       ),
       omega (arith, c .least3 .ensures, l .inv .3, row-next (a .target .width) (l .r)),
       panel-next (a .m .now) (l .m) _ (pre .0) (l .r) (l .inv .0) (if1 .taken) (l .inv .4)
-          (rw (l .inv .2, l .inv .3, c .before .before .before .before .before .before .least .ensures) at (c .before .before .before .before .update-row .ensures)),
+          (rw (l .inv .2, l .inv .3, c .before .before .before .before .before .before .least .ensures) at
+          (c .before .before .before .before .update-row .ensures)),
     )
 
 same-length : tie.Need-same-length Inv-loop μ-loop

@@ -21,7 +21,9 @@ same-length-2 c = search needs
 returns : tie.Need-returns
 returns c =
     let a = c .before .before .before .before .before .before .before .before .before .before .before .before .before .before .before .before .before .before .before .args in
-    blocked-refused (a .shape .order) (a .shape .block) (a .m) (now (a .matrix)) (now (a .rhs)) (now (a .work)) _ _ _ _ _ _ (c .before .before .before .before .before .before .before .before .before .before .before .before .before .packed-to-blocked .ensures) (c .before .before .before .before .before .before .factor .ensures) (c .if1 .taken)
+    blocked-refused (a .shape .order) (a .shape .block) (a .m) (now (a .matrix)) (now (a .rhs)) (now (a .work)) _ _ _ _ _ _
+    (c .before .before .before .before .before .before .before .before .before .before .before .before .before .packed-to-blocked .ensures)
+    (c .before .before .before .before .before .before .factor .ensures) (c .if1 .taken)
 
 solve-blocked-requires : tie.Need-solve-blocked-requires
 solve-blocked-requires c κs = search needs
@@ -47,7 +49,8 @@ same-length-5 c = search needs
 returns-2 : tie.Need-returns-2
 returns-2 c =
     let a = c .before .before .before .before .before .before .before .before .before .before .before .before .before .before .before .before .before .before .before .before .before .before .before .before .before .before .before .before .before .before .before .before .before .before .args in
-    blocked-accepted (a .shape .order) (a .shape .block) (a .m) (now (a .matrix)) (now (a .rhs)) (now (a .work)) _ _ _ _ _ _ (c .before .before .before .before .before .before .before .before .before .before .before .before .before .before .before .before .before .before .before .before .before .before .before .before .before .before .before .before .packed-to-blocked .ensures) (c .before .before .before .before .before .before .before .before .before .before .before .before .before .before .before .before .before .before .before .before .before .factor .ensures) (c .before .before .before .before .before .before .before .before .before .before .before .before .before .before .before .if1 .left) _ _ _ (c .before .before .before .before .before .before .before .before .before .before .before .solve-blocked .ensures) _ _ _ (c .before .before .before .before .blocked-to-packed .ensures)
+    blocked-accepted (a .shape .order) (a .shape .block) (a .m) (now (a .matrix)) (now (a .rhs)) (now (a .work)) _ _ _ _ _ _
+    (c .before .before .before .before .before .before .before .before .before .before .before .before .before .before .before .before .before .before .before .before .before .before .before .before .before .before .before .before .packed-to-blocked .ensures) (c .before .before .before .before .before .before .before .before .before .before .before .before .before .before .before .before .before .before .before .before .before .factor .ensures) (c .before .before .before .before .before .before .before .before .before .before .before .before .before .before .before .if1 .left) _ _ _ (c .before .before .before .before .before .before .before .before .before .before .before .solve-blocked .ensures) _ _ _ (c .before .before .before .before .blocked-to-packed .ensures)
 
 pub blocked-pipeline-spec : {M : Type 1} → statement M
 blocked-pipeline-spec =

@@ -17,7 +17,8 @@ same-length-2 c = search needs
 returns : tie.Need-returns
 returns c =
     let a = c .before .before .before .before .before .before .before .before .before .before .before .before .args in
-    plain-refused (a .shape .order) (a .shape .block) (a .m) (now (a .matrix)) (now (a .rhs)) (now (a .work)) _ _ _ (c .before .before .before .before .before .before .factor .ensures) (c .if1 .taken)
+    plain-refused (a .shape .order) (a .shape .block) (a .m) (now (a .matrix)) (now (a .rhs)) (now (a .work)) _ _ _
+    (c .before .before .before .before .before .before .factor .ensures) (c .if1 .taken)
 
 solve-plain-requires : tie.Need-solve-plain-requires
 solve-plain-requires c κs = search needs
@@ -34,7 +35,9 @@ same-length-5 c = search needs
 returns-2 : tie.Need-returns-2
 returns-2 c =
     let a = c .before .before .before .before .before .before .before .before .before .before .before .before .before .before .before .before .before .before .before .before .args in
-    plain-accepted (a .shape .order) (a .shape .block) (a .m) (now (a .matrix)) (now (a .rhs)) (now (a .work)) _ _ _ (c .before .before .before .before .before .before .before .before .before .before .before .before .before .before .factor .ensures) (c .before .before .before .before .before .before .before .before .if1 .left) _ _ _ (c .before .before .before .before .solve-plain .ensures)
+    plain-accepted (a .shape .order) (a .shape .block) (a .m) (now (a .matrix)) (now (a .rhs)) (now (a .work)) _ _ _
+    (c .before .before .before .before .before .before .before .before .before .before .before .before .before .before .factor .ensures)
+    (c .before .before .before .before .before .before .before .before .if1 .left) _ _ _ (c .before .before .before .before .solve-plain .ensures)
 
 pub plain-pipeline-spec : {M : Type 1} → statement M
 plain-pipeline-spec =

@@ -15,13 +15,16 @@ enum-known-value c = search needs
 returns : tie.Need-returns
 returns c =
     let a = c .before .before .before .before .before .before .args in
-    bounded-low (a .file .now) (a .at) (a .width) (a .low) (a .high) (c .before .before .value .given .0 .0) (c .before .before .value .given .0 .1 .0) (sym (ap parsedField (c .before .before .value .given .1)) ∙ (c .before .before .before .before .read-field .ensures)) (c .if1 .taken)
+    bounded-low (a .file .now) (a .at) (a .width) (a .low) (a .high) (c .before .before .value .given .0 .0)
+    (c .before .before .value .given .0 .1 .0) (sym (ap parsedField (c .before .before .value .given .1)) ∙
+    (c .before .before .before .before .read-field .ensures)) (c .if1 .taken)
 
 returns-2 : tie.Need-returns-2
 returns-2 c =
     let a = c .before .before .before .before .before .before .before .args in
     let value = c .before .before .before .value in
-    bounded-high (a .file .now) (a .at) (a .width) (a .low) (a .high) (value .given .0 .0) (value .given .0 .1 .0) (sym (ap parsedField (value .given .1)) ∙ (c .before .before .before .before .before .read-field .ensures)) (c .before .if1 .left) (c .if2 .taken)
+    bounded-high (a .file .now) (a .at) (a .width) (a .low) (a .high) (value .given .0 .0) (value .given .0 .1 .0)
+    (sym (ap parsedField (value .given .1)) ∙ (c .before .before .before .before .before .read-field .ensures)) (c .before .if1 .left) (c .if2 .taken)
 
 enum-known-place : tie.Need-enum-known-place
 enum-known-place c = search needs
@@ -30,12 +33,14 @@ returns-3 : tie.Need-returns-3
 returns-3 c =
     let a = c .before .before .before .before .before .before .before .args in
     let value = c .before .before .before .value in
-    bounded-in (a .file .now) (a .at) (a .width) (a .low) (a .high) (value .given .0 .0) (value .given .0 .1 .0) (sym (ap parsedField (value .given .1)) ∙ (c .before .before .before .before .before .read-field .ensures)) (c .before .if1 .left) (c .if2 .left)
+    bounded-in (a .file .now) (a .at) (a .width) (a .low) (a .high) (value .given .0 .0) (value .given .0 .1 .0)
+    (sym (ap parsedField (value .given .1)) ∙ (c .before .before .before .before .before .read-field .ensures)) (c .before .if1 .left) (c .if2 .left)
 
 returns-4 : tie.Need-returns-4
 returns-4 c =
     let a = c .before .before .before .before .before .args in
-    bounded-fault (a .file .now) (a .at) (a .width) (a .low) (a .high) (c .before .place .given .0 .0) (sym (ap parsedField (c .before .place .given .1)) ∙ (c .before .before .before .read-field .ensures))
+    bounded-fault (a .file .now) (a .at) (a .width) (a .low) (a .high) (c .before .place .given .0 .0)
+    (sym (ap parsedField (c .before .place .given .1)) ∙ (c .before .before .before .read-field .ensures))
 
 pub bounded-field-spec : {M : Type 1} → statement M
 bounded-field-spec =

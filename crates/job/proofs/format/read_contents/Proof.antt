@@ -38,7 +38,10 @@ returns c =
     let read-values2 = c .before .before .before .before .before .before .read-values2 in
     let at = c .before .before .before .before .before .before .before .before .before .at in
     let pre = c .before .before .before .before .before .before .before .before .before .before .before .before .before .before .before .before .before .before .pre in
-    contents-found (a .file .now) (a .sizes) (a .at) (length (a .matrix .now)) (at .given .0 .0) (read-values .last .1 .1 .1 .0) (pre .0) (sym (ap (parsedAs (read-values .last .1 .1 .1 .0)) (at .given .1)) ∙ (read-values .ensures)) (length (a .rhs .now)) (pre .1) (c .before .before .at2 .given .0 .0) (read-values2 .last .1 .1 .1 .0) (sym (ap (parsedAs (read-values2 .last .1 .1 .1 .0)) (c .before .before .at2 .given .1)) ∙ (read-values2 .ensures)) (c .if1 .taken)
+    contents-found (a .file .now) (a .sizes) (a .at) (length (a .matrix .now)) (at .given .0 .0) (read-values .last .1 .1 .1 .0) (pre .0)
+    (sym (ap (parsedAs (read-values .last .1 .1 .1 .0)) (at .given .1)) ∙ (read-values .ensures)) (length (a .rhs .now)) (pre .1)
+    (c .before .before .at2 .given .0 .0) (read-values2 .last .1 .1 .1 .0)
+    (sym (ap (parsedAs (read-values2 .last .1 .1 .1 .0)) (c .before .before .at2 .given .1)) ∙ (read-values2 .ensures)) (c .if1 .taken)
 
 same-length-3 : tie.Need-same-length-3
 same-length-3 c = search needs
@@ -48,7 +51,8 @@ returns-2 c =
     let a = c .before .before .before .before .before .before .before .before .before .before .args in
     let read-values = c .before .before .before .before .before .read-values in
     let pre = c .before .before .before .before .before .before .before .before .before .before .pre in
-    contents-fault-matrix (a .file .now) (a .sizes) (a .at) (length (a .matrix .now)) (c .before .place .given .0 .0) (pre .0) (sym (ap (parsedAs (read-values .last .1 .1 .1 .0)) (c .before .place .given .1)) ∙ (read-values .ensures))
+    contents-fault-matrix (a .file .now) (a .sizes) (a .at) (length (a .matrix .now)) (c .before .place .given .0 .0) (pre .0)
+    (sym (ap (parsedAs (read-values .last .1 .1 .1 .0)) (c .before .place .given .1)) ∙ (read-values .ensures))
 
 same-length-4 : tie.Need-same-length-4
 same-length-4 c = search needs
@@ -63,7 +67,9 @@ returns-3 c =
     let at = c .before .before .before .before .before .before .before .before .at in
     let pre = c .before .before .before .before .before .before .before .before .before .before .before .before .before .before .before .before .before .pre in
     let read-values2 = c .before .before .before .before .before .read-values2 in
-    contents-fault-rhs (a .file .now) (a .sizes) (a .at) (length (a .matrix .now)) (at .given .0 .0) (read-values .last .1 .1 .1 .0) (pre .0) (sym (ap (parsedAs (read-values .last .1 .1 .1 .0)) (at .given .1)) ∙ (read-values .ensures)) (length (a .rhs .now)) (pre .1) (c .before .place2 .given .0 .0) (sym (ap (parsedAs (read-values2 .last .1 .1 .1 .0)) (c .before .place2 .given .1)) ∙ (read-values2 .ensures))
+    contents-fault-rhs (a .file .now) (a .sizes) (a .at) (length (a .matrix .now)) (at .given .0 .0) (read-values .last .1 .1 .1 .0) (pre .0)
+    (sym (ap (parsedAs (read-values .last .1 .1 .1 .0)) (at .given .1)) ∙ (read-values .ensures)) (length (a .rhs .now)) (pre .1)
+    (c .before .place2 .given .0 .0) (sym (ap (parsedAs (read-values2 .last .1 .1 .1 .0)) (c .before .place2 .given .1)) ∙ (read-values2 .ensures))
 
 same-length-6 : tie.Need-same-length-6
 same-length-6 c = search needs
@@ -78,7 +84,10 @@ returns-4 c =
     let read-values2 = c .before .before .before .before .before .before .read-values2 in
     let at = c .before .before .before .before .before .before .before .before .before .at in
     let pre = c .before .before .before .before .before .before .before .before .before .before .before .before .before .before .before .before .before .before .pre in
-    contents-extra (a .file .now) (a .sizes) (a .at) (length (a .matrix .now)) (at .given .0 .0) (read-values .last .1 .1 .1 .0) (pre .0) (sym (ap (parsedAs (read-values .last .1 .1 .1 .0)) (at .given .1)) ∙ (read-values .ensures)) (length (a .rhs .now)) (pre .1) (c .before .before .at2 .given .0 .0) (read-values2 .last .1 .1 .1 .0) (sym (ap (parsedAs (read-values2 .last .1 .1 .1 .0)) (c .before .before .at2 .given .1)) ∙ (read-values2 .ensures)) (c .if1 .left)
+    contents-extra (a .file .now) (a .sizes) (a .at) (length (a .matrix .now)) (at .given .0 .0) (read-values .last .1 .1 .1 .0) (pre .0)
+    (sym (ap (parsedAs (read-values .last .1 .1 .1 .0)) (at .given .1)) ∙ (read-values .ensures)) (length (a .rhs .now)) (pre .1)
+    (c .before .before .at2 .given .0 .0) (read-values2 .last .1 .1 .1 .0)
+    (sym (ap (parsedAs (read-values2 .last .1 .1 .1 .0)) (c .before .before .at2 .given .1)) ∙ (read-values2 .ensures)) (c .if1 .left)
 
 pub read-contents-spec : {M : Type 1} → statement M
 read-contents-spec =

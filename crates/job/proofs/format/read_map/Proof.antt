@@ -22,7 +22,8 @@ add-bytes c =
 returns : tie.Need-returns
 returns c =
     let a = c .before .before .before .before .args in
-    map-short (a .file .now) (a .n) (a .at) (c .before .triangle .result) ((c .before .triangle .ensures) ∙ ap triangle (c .before .before .new .ensures .0)) (omega arith)
+    map-short (a .file .now) (a .n) (a .at) (c .before .triangle .result)
+    ((c .before .triangle .ensures) ∙ ap triangle (c .before .before .new .ensures .0)) (omega arith)
 
 sub-if2 : tie.Need-sub-if2
 sub-if2 c = search needs
@@ -30,7 +31,8 @@ sub-if2 c = search needs
 returns-2 : tie.Need-returns-2
 returns-2 c =
     let a = c .before .before .before .before .before .args in
-    map-short (a .file .now) (a .n) (a .at) (c .before .before .triangle .result) ((c .before .before .triangle .ensures) ∙ ap triangle (c .before .before .before .new .ensures .0)) (omega arith)
+    map-short (a .file .now) (a .n) (a .at) (c .before .before .triangle .result)
+    ((c .before .before .triangle .ensures) ∙ ap triangle (c .before .before .before .new .ensures .0)) (omega arith)
 
 add-next : tie.Need-add-next
 add-next c = search needs
@@ -38,7 +40,8 @@ add-next c = search needs
 returns-3 : tie.Need-returns-3
 returns-3 c =
     let a = c .before .before .before .before .before .before .args in
-    map-whole (a .file .now) (a .n) (a .at) (c .before .before .before .triangle .result) ((c .before .before .before .triangle .ensures) ∙ ap triangle (c .before .before .before .before .new .ensures .0)) (omega arith) (c .if3 .taken)
+    map-whole (a .file .now) (a .n) (a .at) (c .before .before .before .triangle .result)
+    ((c .before .before .before .triangle .ensures) ∙ ap triangle (c .before .before .before .before .new .ensures .0)) (omega arith) (c .if3 .taken)
 
 sub-wide : tie.Need-sub-wide
 sub-wide c = search needs
@@ -58,12 +61,18 @@ sub-t19 c = search needs
 returns-4 : tie.Need-returns-4
 returns-4 c =
     let a = c .before .before .before .before .before .before .before .before .before .args in
-    map-unpadded (a .file .now) (a .n) (a .at) (c .before .before .before .before .before .before .triangle .result) ((c .before .before .before .before .before .before .triangle .ensures) ∙ ap triangle (c .before .before .before .before .before .before .before .new .ensures .0)) (c .before .wide .result) (omega arith) (c .before .before .before .if3 .left) (c .before .wide .ensures) (c .if4 .taken)
+    map-unpadded (a .file .now) (a .n) (a .at) (c .before .before .before .before .before .before .triangle .result)
+    ((c .before .before .before .before .before .before .triangle .ensures) ∙ ap triangle
+    (c .before .before .before .before .before .before .before .new .ensures .0)) (c .before .wide .result) (omega arith)
+    (c .before .before .before .if3 .left) (c .before .wide .ensures) (c .if4 .taken)
 
 returns-5 : tie.Need-returns-5
 returns-5 c =
     let a = c .before .before .before .before .before .before .before .before .before .args in
-    map-padded (a .file .now) (a .n) (a .at) (c .before .before .before .before .before .before .triangle .result) ((c .before .before .before .before .before .before .triangle .ensures) ∙ ap triangle (c .before .before .before .before .before .before .before .new .ensures .0)) (c .before .wide .result) (omega arith) (c .before .before .before .if3 .left) (c .before .wide .ensures) (c .if4 .left)
+    map-padded (a .file .now) (a .n) (a .at) (c .before .before .before .before .before .before .triangle .result)
+    ((c .before .before .before .before .before .before .triangle .ensures) ∙ ap triangle
+    (c .before .before .before .before .before .before .before .new .ensures .0)) (c .before .wide .result) (omega arith)
+    (c .before .before .before .if3 .left) (c .before .wide .ensures) (c .if4 .left)
 
 pub read-map-spec : {M : Type 1} → statement M
 read-map-spec =

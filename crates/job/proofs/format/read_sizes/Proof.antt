@@ -36,27 +36,40 @@ enum-known-count c = search needs
 returns : tie.Need-returns
 returns c =
     let a = c .before .before .before .before .before .args in
-    sizes-fault-order (a .file .now) (c .before .place .given .0 .0) (sym (ap parsedField (c .before .place .given .1)) ∙ (c .before .before .before .bounded-field .ensures))
+    sizes-fault-order (a .file .now) (c .before .place .given .0 .0)
+    (sym (ap parsedField (c .before .place .given .1)) ∙ (c .before .before .before .bounded-field .ensures))
 
 returns-2 : tie.Need-returns-2
 returns-2 c =
     let order = c .before .before .before .before .before .order in
     let a = c .before .before .before .before .before .before .before .before .before .args in
-    sizes-fault-block (a .file .now) (order .given .0 .0) (order .given .0 .1 .0) (sym (ap parsedField (order .given .1)) ∙ (c .before .before .before .before .before .before .before .bounded-field .ensures)) (c .before .place2 .given .0 .0) (sym (ap parsedField (c .before .place2 .given .1)) ∙ (c .before .before .before .bounded-field2 .ensures))
+    sizes-fault-block (a .file .now) (order .given .0 .0) (order .given .0 .1 .0)
+    (sym (ap parsedField (order .given .1)) ∙ (c .before .before .before .before .before .before .before .bounded-field .ensures))
+    (c .before .place2 .given .0 .0) (sym (ap parsedField (c .before .place2 .given .1)) ∙ (c .before .before .before .bounded-field2 .ensures))
 
 returns-3 : tie.Need-returns-3
 returns-3 c =
     let order = c .before .before .before .before .before .before .before .before .before .order in
     let block = c .before .before .before .before .before .block in
     let a = c .before .before .before .before .before .before .before .before .before .before .before .before .before .args in
-    sizes-fault-count (a .file .now) (order .given .0 .0) (order .given .0 .1 .0) (sym (ap parsedField (order .given .1)) ∙ (c .before .before .before .before .before .before .before .before .before .before .before .bounded-field .ensures)) (block .given .0 .0) (block .given .0 .1 .0) (sym (ap parsedField (block .given .1)) ∙ (c .before .before .before .before .before .before .before .bounded-field2 .ensures)) (c .before .place3 .given .0 .0) (sym (ap parsedField (c .before .place3 .given .1)) ∙ (c .before .before .before .bounded-field3 .ensures))
+    sizes-fault-count (a .file .now) (order .given .0 .0) (order .given .0 .1 .0)
+    (sym (ap parsedField (order .given .1)) ∙
+    (c .before .before .before .before .before .before .before .before .before .before .before .bounded-field .ensures)) (block .given .0 .0)
+    (block .given .0 .1 .0) (sym (ap parsedField (block .given .1)) ∙
+    (c .before .before .before .before .before .before .before .bounded-field2 .ensures)) (c .before .place3 .given .0 .0)
+    (sym (ap parsedField (c .before .place3 .given .1)) ∙ (c .before .before .before .bounded-field3 .ensures))
 
 returns-4 : tie.Need-returns-4
 returns-4 c =
     let order = c .before .before .before .before .before .before .before .before .before .order in
     let block = c .before .before .before .before .before .block in
     let a = c .before .before .before .before .before .before .before .before .before .before .before .before .before .args in
-    sizes-found (a .file .now) (order .given .0 .0) (order .given .0 .1 .0) (sym (ap parsedField (order .given .1)) ∙ (c .before .before .before .before .before .before .before .before .before .before .before .bounded-field .ensures)) (block .given .0 .0) (block .given .0 .1 .0) (sym (ap parsedField (block .given .1)) ∙ (c .before .before .before .before .before .before .before .bounded-field2 .ensures)) (c .before .count .given .0 .0) (c .before .count .given .0 .1 .0) (sym (ap parsedField (c .before .count .given .1)) ∙ (c .before .before .before .bounded-field3 .ensures))
+    sizes-found (a .file .now) (order .given .0 .0) (order .given .0 .1 .0)
+    (sym (ap parsedField (order .given .1)) ∙
+    (c .before .before .before .before .before .before .before .before .before .before .before .bounded-field .ensures)) (block .given .0 .0)
+    (block .given .0 .1 .0) (sym (ap parsedField (block .given .1)) ∙
+    (c .before .before .before .before .before .before .before .bounded-field2 .ensures)) (c .before .count .given .0 .0)
+    (c .before .count .given .0 .1 .0) (sym (ap parsedField (c .before .count .given .1)) ∙ (c .before .before .before .bounded-field3 .ensures))
 
 pub read-sizes-spec : {M : Type 1} → statement M
 read-sizes-spec =

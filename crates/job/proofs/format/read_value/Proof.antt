@@ -16,7 +16,8 @@ returns : tie.Need-returns
 unfolding ofBits
 returns c =
     let a = c .before .before .before .args in
-    value-absent (a .file .now) (a .at) (presentIn (a .file .now) (a .mapped) (a .k)) (sym (c .before .present .ensures) ∙ not-true (c .before .present .result) (c .if1 .taken))
+    value-absent (a .file .now) (a .at) (presentIn (a .file .now) (a .mapped) (a .k))
+    (sym (c .before .present .ensures) ∙ not-true (c .before .present .result) (c .if1 .taken))
 
 read-field-requires : tie.Need-read-field-requires
 read-field-requires c κs = search needs
@@ -34,13 +35,18 @@ returns-2 : tie.Need-returns-2
 returns-2 c =
     let a = c .before .before .before .before .before .before .before .before .args in
     let present = c .before .before .before .before .before .before .present in
-    value-read (a .file .now) (a .at) (presentIn (a .file .now) (a .mapped) (a .k)) (c .before .before .bits .given .0 .0) (c .before .before .bits .given .0 .1 .0) (c .float-of .result) (sym (present .ensures) ∙ not-false (present .result) (c .before .before .before .before .before .if1 .left)) (sym (ap parsedField (c .before .before .bits .given .1)) ∙ (c .before .before .before .before .read-field .ensures)) (c .float-of .ensures)
+    value-read (a .file .now) (a .at) (presentIn (a .file .now) (a .mapped) (a .k)) (c .before .before .bits .given .0 .0)
+    (c .before .before .bits .given .0 .1 .0) (c .float-of .result) (sym (present .ensures) ∙ not-false (present .result)
+    (c .before .before .before .before .before .if1 .left)) (sym (ap parsedField (c .before .before .bits .given .1)) ∙
+    (c .before .before .before .before .read-field .ensures)) (c .float-of .ensures)
 
 returns-3 : tie.Need-returns-3
 returns-3 c =
     let a = c .before .before .before .before .before .before .before .args in
     let present = c .before .before .before .before .before .present in
-    value-fault (a .file .now) (a .at) (presentIn (a .file .now) (a .mapped) (a .k)) (c .before .place .given .0 .0) (sym (present .ensures) ∙ not-false (present .result) (c .before .before .before .before .if1 .left)) (sym (ap parsedField (c .before .place .given .1)) ∙ (c .before .before .before .read-field .ensures))
+    value-fault (a .file .now) (a .at) (presentIn (a .file .now) (a .mapped) (a .k)) (c .before .place .given .0 .0)
+    (sym (present .ensures) ∙ not-false (present .result) (c .before .before .before .before .if1 .left))
+    (sym (ap parsedField (c .before .place .given .1)) ∙ (c .before .before .before .read-field .ensures))
 
 pub read-value-spec : {M : Type 1} → statement M
 read-value-spec =

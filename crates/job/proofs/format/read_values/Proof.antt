@@ -17,7 +17,9 @@ abbrev μ-loop : tie.MeasureT-loop
 μ-loop file mapped at out₀ next₀ k₀ out next k = length out - k
 
 loop-holds : tie.Need-loop-holds Inv-loop μ-loop
-loop-holds c = read-none (c .before .before .args .file .now) (presentIn (c .before .before .args .file .now) (c .before .before .args .mapped)) (c .before .before .args .at) (c .before .before .args .out .now)
+loop-holds c =
+    read-none (c .before .before .args .file .now) (presentIn (c .before .before .args .file .now) (c .before .before .args .mapped))
+    (c .before .before .args .at) (c .before .before .args .out .now)
 
 read-value-requires : tie.Need-read-value-requires Inv-loop μ-loop
 read-value-requires c κs = search needs
@@ -32,7 +34,9 @@ returns : tie.Need-returns Inv-loop μ-loop
 returns c =
     let a = c .before .before .before .before .before .before .before .before .args in
     let l = c .before .before .before .before .before .loop in
-    read-fault (a .file .now) (presentIn (a .file .now) (a .mapped)) (a .at) (length (a .out .now)) (l .next) (l .k) (c .before .place .given .0 .0) (l .out) (l .inv) (c .before .before .before .before .loop-test .taken) (sym (ap parsedValue (c .before .place .given .1)) ∙ (c .before .before .before .read-value .ensures))
+    read-fault (a .file .now) (presentIn (a .file .now) (a .mapped)) (a .at) (length (a .out .now)) (l .next) (l .k) (c .before .place .given .0 .0)
+    (l .out) (l .inv) (c .before .before .before .before .loop-test .taken)
+    (sym (ap parsedValue (c .before .place .given .1)) ∙ (c .before .before .before .read-value .ensures))
 
 enum-known-v : tie.Need-enum-known-v Inv-loop μ-loop
 enum-known-v c = search needs
@@ -60,7 +64,9 @@ loop-again : tie.Need-loop-again Inv-loop μ-loop
 loop-again c =
     let a = c .before .before .before .before .before .before .before .before .args in
     let l = c .before .before .before .before .before .loop in
-    read-turn (a .file .now) (presentIn (a .file .now) (a .mapped)) (a .at) (length (a .out .now)) (l .next) (l .k) (c .before .v .given .0 .1 .0) (l .out) (c .before .v .given .0 .0) (l .inv) (c .before .before .before .before .loop-test .taken) (sym (ap parsedValue (c .before .v .given .1)) ∙ (c .before .before .before .read-value .ensures))
+    read-turn (a .file .now) (presentIn (a .file .now) (a .mapped)) (a .at) (length (a .out .now)) (l .next) (l .k) (c .before .v .given .0 .1 .0)
+    (l .out) (c .before .v .given .0 .0) (l .inv) (c .before .before .before .before .loop-test .taken)
+    (sym (ap parsedValue (c .before .v .given .1)) ∙ (c .before .before .before .read-value .ensures))
 
 same-length-2 : tie.Need-same-length-2 Inv-loop μ-loop
 same-length-2 c = (c .before .loop .inv .kept)
@@ -68,7 +74,8 @@ same-length-2 c = (c .before .loop .inv .kept)
 returns-2 : tie.Need-returns-2 Inv-loop μ-loop
 returns-2 c =
     let a = c .before .before .before .before .args in
-    read-all (a .file .now) (presentIn (a .file .now) (a .mapped)) (a .at) (length (a .out .now)) (c .before .loop .next) (c .before .loop .k) (c .before .loop .out) (c .before .loop .inv) (c .loop-test .left)
+    read-all (a .file .now) (presentIn (a .file .now) (a .mapped)) (a .at) (length (a .out .now)) (c .before .loop .next) (c .before .loop .k)
+    (c .before .loop .out) (c .before .loop .inv) (c .loop-test .left)
 
 pub read-values-spec : {M : Type 1} → statement M
 read-values-spec =

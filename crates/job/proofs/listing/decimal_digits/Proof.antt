@@ -31,7 +31,8 @@ loop-less c = omega (arith, c .before .loop-test .taken)
 loop-again : tie.Need-loop-again Inv-loop μ-loop
 loop-again c =
     let a = c .before .before .before .before .args in
-    digits-turn (a .n) (c .before .before .loop .left) (c .before .before .loop .i) (c .before .before .loop .buffer) (c .before .before .loop .inv) (c .digit .result) (c .before .loop-test .taken) (c .digit .ensures)
+    digits-turn (a .n) (c .before .before .loop .left) (c .before .before .loop .i) (c .before .before .loop .buffer) (c .before .before .loop .inv)
+    (c .digit .result) (c .before .loop-test .taken) (c .digit .ensures)
 
 sub-i-2 : tie.Need-sub-i-2 Inv-loop μ-loop
 sub-i-2 c = omega (arith, c .before .loop .inv .some)
@@ -45,7 +46,8 @@ slice-write-buffer-2 c = omega (arith, c .before .before .loop .inv .some, c .be
 same-length : tie.Need-same-length Inv-loop μ-loop
 same-length c =
     let pre = c .before .before .before .before .pre in
-    length-set (c .before .before .loop .buffer) ((c .before .before .loop .i) - 1) (c .digit2 .result) ∙ (c .before .before .loop .inv .size) ∙ sym (pre)
+    length-set (c .before .before .loop .buffer) ((c .before .before .loop .i) - 1) (c .digit2 .result) ∙ (c .before .before .loop .inv .size) ∙ sym
+    (pre)
 
 returns : tie.Need-returns Inv-loop μ-loop
 returns c =
@@ -54,7 +56,8 @@ returns c =
         arith,
         c .before .before .loop .inv .within,
       ),
-      digits-end (a .n) (c .before .before .loop .left) (c .before .before .loop .i) (c .before .before .loop .buffer) (c .before .before .loop .inv) (c .digit2 .result) (c .before .loop-test .left) (c .digit2 .ensures),
+      digits-end (a .n) (c .before .before .loop .left) (c .before .before .loop .i) (c .before .before .loop .buffer) (c .before .before .loop .inv)
+          (c .digit2 .result) (c .before .loop-test .left) (c .digit2 .ensures),
     )
 
 pub decimal-digits-spec : {M : Type 1} → statement M

@@ -45,7 +45,9 @@ returns : tie.Need-returns
 returns c =
     let a = c .before .before .before .before .before .before .before .before .before .before .before .before .before .before .args in
     let pre = c .before .before .before .before .before .before .before .before .before .before .before .before .before .before .pre in
-    as-text (end-text (a .code) (a .place)) (then (then (c .before .before .before .before .before .before .before .before .before .before .put-text .ensures) (c .before .before .before .before .before .before .put-number .ensures) (omega (
+    as-text (end-text (a .code) (a .place)) (then (then
+    (c .before .before .before .before .before .before .before .before .before .before .put-text .ensures)
+    (c .before .before .before .before .before .before .put-number .ensures) (omega (
       arith,
       (pre),
       length-endLine (a .code) (a .place),

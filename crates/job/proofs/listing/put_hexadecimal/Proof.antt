@@ -41,7 +41,8 @@ slice-write-out c =
     omega (
       arith,
       (pre),
-      length-hex (a .out .now) (c .before .before .loop .out) (a .at) (c .before .before .before .bits-of .result) (c .before .before .loop .i) (pre) (c .before .before .loop .inv .0) (c .before .before .loop .inv .1),
+      length-hex (a .out .now) (c .before .before .loop .out) (a .at) (c .before .before .before .bits-of .result) (c .before .before .loop .i) (pre)
+          (c .before .before .loop .inv .0) (c .before .before .loop .inv .1),
     )
 
 add-i : tie.Need-add-i Inv-loop μ-loop
@@ -53,8 +54,11 @@ loop-less c = omega arith
 loop-again : tie.Need-loop-again Inv-loop μ-loop
 loop-again c =
     let a = c .before .before .before .before .before .args in
-    let pre = c .before .before .before .before .before .pre in
-    (omega arith, hex-turn (a .out .now) (c .before .before .loop .out) (a .at) (c .before .before .before .bits-of .result) (c .before .before .loop .i) (c .hex-digit .result) (pre) (c .before .loop-test .taken) (c .before .before .loop .inv .1) (c .hex-digit .ensures))
+    let pre = c .before .before .before .before .before .pre in (
+      omega arith,
+      hex-turn (a .out .now) (c .before .before .loop .out) (a .at) (c .before .before .before .bits-of .result)
+          (c .before .before .loop .i) (c .hex-digit .result) (pre) (c .before .loop-test .taken) (c .before .before .loop .inv .1) (c .hex-digit .ensures),
+    )
 
 add-result : tie.Need-add-result Inv-loop μ-loop
 add-result c = omega (arith, (c .before .before .before .before .pre))
@@ -63,12 +67,14 @@ same-length : tie.Need-same-length Inv-loop μ-loop
 same-length c =
     let a = c .before .before .before .before .args in
     let pre = c .before .before .before .before .pre in
-    length-hex (a .out .now) (c .before .loop .out) (a .at) (c .before .before .bits-of .result) (c .before .loop .i) (pre) (c .before .loop .inv .0) (c .before .loop .inv .1)
+    length-hex (a .out .now) (c .before .loop .out) (a .at) (c .before .before .bits-of .result) (c .before .loop .i) (pre) (c .before .loop .inv .0)
+    (c .before .loop .inv .1)
 
 returns : tie.Need-returns Inv-loop μ-loop
 returns c =
     let a = c .before .before .before .before .args in
-    hex-done (a .out .now) (c .before .loop .out) (a .at) (c .before .before .bits-of .result) (c .before .loop .i) (a .v) (c .before .before .bits-of .ensures) (c .before .loop .inv .0) (c .loop-test .left) (c .before .loop .inv .1)
+    hex-done (a .out .now) (c .before .loop .out) (a .at) (c .before .before .bits-of .result) (c .before .loop .i) (a .v)
+    (c .before .before .bits-of .ensures) (c .before .loop .inv .0) (c .loop-test .left) (c .before .loop .inv .1)
 
 pub put-hexadecimal-spec : {M : Type 1} → statement M
 put-hexadecimal-spec =

@@ -66,11 +66,14 @@ returns : tie.Need-returns
 returns c =
     let a = c .before .before .before .before .before .before .before .before .before .before .before .before .before .before .before .before .before .before .args in
     let pre = c .before .before .before .before .before .before .before .before .before .before .before .before .before .before .before .before .before .before .pre in
-    as-text (job-text (a .n) (a .b) (a .m)) (then (then (then (c .before .before .before .before .before .before .before .before .before .before .before .before .before .before .put-text .ensures) (c .before .before .before .before .before .before .before .before .before .before .put-number .ensures) (omega (
+    as-text (job-text (a .n) (a .b) (a .m)) (then (then (then
+    (c .before .before .before .before .before .before .before .before .before .before .before .before .before .before .put-text .ensures)
+    (c .before .before .before .before .before .before .before .before .before .before .put-number .ensures) (omega (
       arith,
       (pre),
       length-jobLine (a .n) (a .b) (a .m),
-    ))) (c .before .before .before .before .before .before .put-number2 .ensures) (job-fits-order (a .at) (a .n) (a .b) (a .m) (a .out .now) (pre))) (c .before .before .put-number3 .ensures) (job-fits-block (a .at) (a .n) (a .b) (a .m) (a .out .now) (pre)))
+    ))) (c .before .before .before .before .before .before .put-number2 .ensures) (job-fits-order (a .at) (a .n) (a .b) (a .m) (a .out .now) (pre)))
+    (c .before .before .put-number3 .ensures) (job-fits-block (a .at) (a .n) (a .b) (a .m) (a .out .now) (pre)))
 
 pub put-job-spec : {M : Type 1} → statement M
 put-job-spec =

@@ -30,7 +30,8 @@ put-text-requires c κs =
     omega (
       arith,
       (pre),
-      ap length (tail-text (decimal-digits .last .0) (decimal-digits .result) (a .n) (decimal-digits .kept .0) (decimal-digits .ensures .0) (decimal-digits .ensures .1)),
+      ap length (tail-text (decimal-digits .last .0) (decimal-digits .result) (a .n) (decimal-digits .kept .0) (decimal-digits .ensures .0)
+          (decimal-digits .ensures .1)),
     )
 
 put-byte-requires : tie.Need-put-byte-requires
@@ -44,7 +45,8 @@ put-byte-requires c κs =
       (pre),
       (put-text .ensures .next),
       (put-text .kept .0),
-      ap length (tail-text (decimal-digits .last .0) (decimal-digits .result) (a .n) (decimal-digits .kept .0) (decimal-digits .ensures .0) (decimal-digits .ensures .1)),
+      ap length (tail-text (decimal-digits .last .0) (decimal-digits .result) (a .n) (decimal-digits .kept .0) (decimal-digits .ensures .0)
+          (decimal-digits .ensures .1)),
     )
 
 same-length : tie.Need-same-length
@@ -55,7 +57,9 @@ returns c =
     let decimal-digits = c .before .before .before .before .before .before .before .before .before .before .before .decimal-digits in
     let a = c .before .before .before .before .before .before .before .before .before .before .before .before .before .before .args in
     let pre = c .before .before .before .before .before .before .before .before .before .before .before .before .before .before .pre in
-    then (as-text (tail-text (decimal-digits .last .0) (decimal-digits .result) (a .n) (decimal-digits .kept .0) (decimal-digits .ensures .0) (decimal-digits .ensures .1)) (c .before .before .before .before .before .before .put-text .ensures)) (c .before .before .put-byte .ensures) (omega (
+    then (as-text (tail-text (decimal-digits .last .0) (decimal-digits .result) (a .n) (decimal-digits .kept .0) (decimal-digits .ensures .0)
+    (decimal-digits .ensures .1)) (c .before .before .before .before .before .before .put-text .ensures)) (c .before .before .put-byte .ensures)
+    (omega (
       arith,
       (pre),
     ))

@@ -30,7 +30,8 @@ returns : tie.Need-returns
 returns c =
     let a = c .before .before .before .before .before .before .before .before .before .before .before .before .before .args in
     let pre = c .before .before .before .before .before .before .before .before .before .before .before .before .before .pre in
-    as-text (refused-lines (a .matrix .now) (a .rhs .now) (a .sizes) (a .result) (c .before .before .before .before .if1 .taken)) (then (c .before .before .before .before .before .before .before .before .put-job .ensures) (c .before .before .put-end .ensures) (omega (
+    as-text (refused-lines (a .matrix .now) (a .rhs .now) (a .sizes) (a .result) (c .before .before .before .before .if1 .taken))
+    (then (c .before .before .before .before .before .before .before .before .put-job .ensures) (c .before .before .put-end .ensures) (omega (
       arith,
       job-fits (a .matrix .now) (a .rhs .now) (a .sizes) (a .result) (a .out .now) (pre),
     )))
@@ -70,7 +71,9 @@ returns-2 c =
     let a = c .before .before .before .before .before .before .before .before .before .before .before .before .before .before .before .before .before .args in
     let if1 = c .before .before .before .before .before .before .before .before .if1 in
     let pre = c .before .before .before .before .before .before .before .before .before .before .before .before .before .before .before .before .before .pre in
-    as-text (accepted-lines (a .matrix .now) (a .rhs .now) (a .sizes) (a .result) (if1 .left)) (then (then (c .before .before .before .before .before .before .before .before .before .before .before .before .put-job .ensures) (c .before .before .before .before .before .before .put-solution .ensures) (omega (
+    as-text (accepted-lines (a .matrix .now) (a .rhs .now) (a .sizes) (a .result) (if1 .left))
+    (then (then (c .before .before .before .before .before .before .before .before .before .before .before .before .put-job .ensures)
+    (c .before .before .before .before .before .before .put-solution .ensures) (omega (
       arith,
       job-fits (a .matrix .now) (a .rhs .now) (a .sizes) (a .result) (a .out .now) (pre),
     ))) (c .before .before .put-end2 .ensures) (two-fit (a .matrix .now) (a .rhs .now) (a .sizes) (a .result) (a .out .now) (pre) (if1 .left)))

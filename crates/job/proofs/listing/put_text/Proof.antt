@@ -30,7 +30,8 @@ slice-write-out c =
     omega (
       arith,
       (pre),
-      length-copied (a .out .now) (a .at) (a .text .now) (pre) (c .before .before .loop .out) (c .before .before .loop .i) (c .before .before .loop .inv .1) (c .before .before .loop .inv .0),
+      length-copied (a .out .now) (a .at) (a .text .now) (pre) (c .before .before .loop .out) (c .before .before .loop .i)
+          (c .before .before .loop .inv .1) (c .before .before .loop .inv .0),
     )
 
 add-i : tie.Need-add-i Inv-loop μ-loop
@@ -42,17 +43,24 @@ loop-less c = omega arith
 loop-again : tie.Need-loop-again Inv-loop μ-loop
 loop-again c =
     let a = c .before .before .before .args in
-    let pre = c .before .before .before .pre in
-    (omega arith, copy-turn (a .out .now) (a .at) (a .text .now) (pre) (c .before .before .loop .out) (c .before .before .loop .i) (c .before .before .loop .inv .1) (c .before .loop-test .taken))
+    let pre = c .before .before .before .pre in (
+      omega arith,
+      copy-turn (a .out .now) (a .at) (a .text .now) (pre) (c .before .before .loop .out) (c .before .before .loop .i)
+          (c .before .before .loop .inv .1) (c .before .loop-test .taken),
+    )
 
 add-result : tie.Need-add-result Inv-loop μ-loop
 add-result c = omega (arith, (c .before .before .pre))
 
 same-length : tie.Need-same-length Inv-loop μ-loop
-same-length c = length-copied (c .before .before .args .out .now) (c .before .before .args .at) (c .before .before .args .text .now) (c .before .before .pre) (c .before .loop .out) (c .before .loop .i) (c .before .loop .inv .1) (c .before .loop .inv .0)
+same-length c =
+    length-copied (c .before .before .args .out .now) (c .before .before .args .at) (c .before .before .args .text .now) (c .before .before .pre)
+    (c .before .loop .out) (c .before .loop .i) (c .before .loop .inv .1) (c .before .loop .inv .0)
 
 returns : tie.Need-returns Inv-loop μ-loop
-returns c = copy-done (c .before .before .args .out .now) (c .before .before .args .at) (c .before .before .args .text .now) (c .before .before .pre) (c .before .loop .out) (c .before .loop .i) (c .before .loop .inv .1) (c .before .loop .inv .0) (c .loop-test .left)
+returns c =
+    copy-done (c .before .before .args .out .now) (c .before .before .args .at) (c .before .before .args .text .now) (c .before .before .pre)
+    (c .before .loop .out) (c .before .loop .i) (c .before .loop .inv .1) (c .before .loop .inv .0) (c .loop-test .left)
 
 pub put-text-spec : {M : Type 1} → statement M
 put-text-spec =

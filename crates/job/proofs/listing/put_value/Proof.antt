@@ -37,7 +37,8 @@ unfolding valueLine
 returns c =
     let pre = c .before .before .before .before .before .before .before .before .before .before .before .before .before .before .pre in
     let a = c .before .before .before .before .before .before .before .before .before .before .before .before .before .before .args in
-    then (then (c .before .before .before .before .before .before .before .before .before .before .put-text .ensures) (c .before .before .before .before .before .before .put-hexadecimal .ensures) (omega (
+    then (then (c .before .before .before .before .before .before .before .before .before .before .put-text .ensures)
+    (c .before .before .before .before .before .before .put-hexadecimal .ensures) (omega (
       arith,
       (pre .0),
       (pre .1),

@@ -42,8 +42,13 @@ loop-again : tie.Need-loop-again Inv-loop μ-loop
 loop-again c =
     let l = c .before .before .before .before .before .before .loop in
     let a = c .before .before .before .before .before .before .before .before .before .before .args in
-    let pre = c .before .before .before .before .before .before .before .before .before .before .pre in
-    (omega arith, (c .before .before .put-value .kept .0) ∙ (l .inv .1), lines-turn (a .head .now) (a .values .now) (a .at) (l .next) (c .before .before .put-value .result) (l .k) (a .out .now) (l .out) (c .before .before .put-value .last .0) (pre .0) (pre .1) (c .before .before .before .before .before .loop-test .taken) (l .inv .2) (c .before .before .put-value .ensures))
+    let pre = c .before .before .before .before .before .before .before .before .before .before .pre in (
+      omega arith,
+      (c .before .before .put-value .kept .0) ∙ (l .inv .1),
+      lines-turn (a .head .now) (a .values .now) (a .at) (l .next)
+          (c .before .before .put-value .result) (l .k) (a .out .now) (l .out) (c .before .before .put-value .last .0) (pre .0) (pre .1)
+          (c .before .before .before .before .before .loop-test .taken) (l .inv .2) (c .before .before .put-value .ensures),
+    )
 
 same-length : tie.Need-same-length Inv-loop μ-loop
 same-length c = (c .before .loop .inv .1)
@@ -51,7 +56,8 @@ same-length c = (c .before .loop .inv .1)
 returns : tie.Need-returns Inv-loop μ-loop
 returns c =
     let a = c .before .before .before .before .before .args in
-    lines-all (a .head .now) (a .values .now) (a .at) (c .before .loop .next) (c .before .loop .k) (a .out .now) (c .before .loop .out) (c .before .loop .inv .0) (c .loop-test .left) (c .before .loop .inv .2)
+    lines-all (a .head .now) (a .values .now) (a .at) (c .before .loop .next) (c .before .loop .k) (a .out .now) (c .before .loop .out)
+    (c .before .loop .inv .0) (c .loop-test .left) (c .before .loop .inv .2)
 
 pub put-values-spec : {M : Type 1} → statement M
 put-values-spec =
