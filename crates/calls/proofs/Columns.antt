@@ -43,7 +43,7 @@ module _ (n : ℕ) (a : Triangle) where
   unfolding cholesky
   length-columns k = length-grow (factorColumn (height n) a) k
 
-  length-column : (j : ℕ) (l : Triangle) → j < n → length (factorColumn (height n) a j l) ≡ n - j
+  pub length-column : (j : ℕ) (l : Triangle) → j < n → length (factorColumn (height n) a j l) ≡ n - j
   unfolding factorColumn
   length-column j l h = omega (arith, length-below j l)
 

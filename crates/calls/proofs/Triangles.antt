@@ -97,7 +97,7 @@ module _ (place : ℕ → ℕ → ℕ) (n : ℕ) (bij : Bijection place n) where
       in
       rw back at at
 
-  column-other :
+  pub column-other :
       (c m : List Float) (i j k : ℕ) (d : Float) → Entry n i j → j ≢ k → length c ≡ n - k →
       getD (storeColumn place k c m) (place i j) d ≡ getD m (place i j) d
   unfolding storeColumn

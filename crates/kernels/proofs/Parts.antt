@@ -2,7 +2,7 @@
 use Prim.Native.Nat.{ℕ, _+_, _-_, _≤_, _<_}
 use native.Mathlib.Omega.{arith}
 use native.Mathlib.Decide.{decLt}
-use mathlib.Core.Path.{_≡_, refl, ap, _∙_}
+use mathlib.Core.Path.{_≡_, refl, sym, ap, _∙_}
 use mathlib.Core.List.{List, _++_}
 use lib.ListN.{length, getD, set, take, drop, length-append, length-set, length-take, length-drop, List·getD-append}
 use lib.Seq.{getD-take, getD-drop, getD-append-add, getD-set-same, getD-set-other}
@@ -81,7 +81,42 @@ module _ {A : Type 0} (d : A) where
           after = λ i h. getD-set-other zs (a + k) i x d (λ g. omega arith) ∙ so .after i (omega arith);
         }
 
+  -- the same where the loop counts from a on
+  pub filled-at :
+      (a i : ℕ) (f : ℕ → A) (xs zs : List A) (x : A) → a ≤ i → i < length xs → Filled d a (i - a) (λ r. f (a + r)) xs zs → x ≡ f i →
+      Filled d a (i + 1 - a) (λ r. f (a + r)) xs (set zs i x)
+  filled-at a i f xs zs x low room so e =
+      let here : a + (i - a) ≡ i = omega arith in
+      let next : i + 1 - a ≡ i - a + 1 = omega arith in
+      rw next (rw here at (filled-next a (λ r. f (a + r)) xs (i - a) zs x (omega arith) so (e ∙ ap f (sym here))))
+
+  -- element i of those that were stored so
+  pub filled-here :
+      {a k : ℕ} {xs zs : List A} (f : ℕ → A) → Filled d a k (λ r. f (a + r)) xs zs → (i : ℕ) → a ≤ i → i < a + k → getD zs i d ≡ f i
+  filled-here {a} f so i low h =
+      let here : a + (i - a) ≡ i = omega arith in
+      rw here at (so .inside (i - a) (omega arith))
+
   pub filled-same :
       (a k : ℕ) (f f′ : ℕ → A) (xs zs : List A) → ((r : ℕ) → r < k → f r ≡ f′ r) → Filled d a k f xs zs → Filled d a k f′ xs zs
   filled-same a k f f′ xs zs same so =
       record { size = so .size; before = so .before; inside = λ r h. so .inside r h ∙ same r h; after = so .after }
+
+  -- the count elements from `at` on, stored after the k before them
+  pub filled-append :
+      (a k at count : ℕ) (f g : ℕ → A) (xs ys zs : List A) → at ≡ a + k → Filled d a k f xs ys → Filled d at count g ys zs →
+      ((r : ℕ) → r < count → g r ≡ f (k + r)) → Filled d a (k + count) f xs zs
+  filled-append a k at count f g xs ys zs e first second same =
+      record {
+        size = second .size ∙ first .size;
+        before = λ i h. second .before i (omega arith) ∙ first .before i h;
+        inside = λ r h.
+            elim (decLt r k) [
+              | yes before ↦ second .before (a + r) (omega arith) ∙ first .inside r before
+              | no after ↦
+                  let here : a + r ≡ at + (r - k) = omega arith in
+                  let back : k + (r - k) ≡ r = omega arith in
+                  ap (λ q. getD zs q d) here ∙ second .inside (r - k) (omega arith) ∙ same (r - k) (omega arith) ∙ ap f back
+            ];
+        after = λ i h. second .after i (omega arith) ∙ first .after i (omega arith);
+      }

@@ -1,5 +1,5 @@
 -- A column of packed memory, written row by row from work memory that has row i at i. Assumes nothing.
-use Prim.Native.Nat.{ℕ, _+_, _-_, _≤_}
+use Prim.Native.Nat.{ℕ, suc, _+_, _-_, _≤_}
 use native.Mathlib.Nat.{sub-self}
 use native.Mathlib.Omega.{arith}
 use mathlib.Core.Path.{_≡_}
@@ -11,8 +11,16 @@ use Rattle.shape.specs.Places.{packedPlace}
 use Rattle.calls.specs.Sequences.{iterate}
 use Rattle.calls.specs.Triangles.{storeColumn}
 use Rattle.calls.proofs.Writes.{writes}
-use Rattle.plain_factor.proofs.Fills.{write-more}
 use Rattle.plain_factor.proofs.Rows.{row-place}
+
+-- a write more, of a run of writes
+write-more :
+    (place : ℕ → ℕ) (value : ℕ → Float) (m s : List Float) (r next p : ℕ) (x : Float) →
+    s ≡ writes place value r m → next ≡ r + 1 → p ≡ place r → x ≡ value r → set s p x ≡ writes place value next m
+unfolding iterate
+write-more place value m s r next p x e step at v =
+    let count : next ≡ suc r = omega arith in
+    rw (e, count, at, v)
 
 module _ (n j : ℕ) (w m : List Float) where
   -- the rows from j to i − 1 are written

@@ -1,5 +1,4 @@
 -- Laws that the proofs of this crate share.
-pub mod Fills
 pub mod Rows
 pub mod Columns
 pub mod Verdicts

@@ -1,7 +1,7 @@
 -- The outcome of the plain factor against its definition: refused by a check, or factored as far as its columns are accepted. Assumes nothing.
 use Prim.Native.Nat.{ℕ}
 use mathlib.Core.Path.{_≡_, refl, sym, ap, _∙_}
-use mathlib.Core.Bool.{true, false, cond}
+use mathlib.Core.Bool.{true, cond}
 use mathlib.Core.List.{List, _++_}
 use lib.ListN.{length, drop, replicate}
 use lib.Ieee.{Float}
@@ -13,17 +13,9 @@ use Rattle.calls.specs.Triangles.{height, placeOf, store}
 use Rattle.calls.specs.Arithmetic.{cholesky}
 use Rattle.calls.specs.Refusals.{accepted}
 use Rattle.calls.specs.Calls.{DoneAs, clear, factorChecks, factored, factorize}
-use Rattle.calls.proofs.CheckLaws.{FactorAccepted, factor-accepted}
 use Rattle.plain_factor.specs.Steps.{held, Factored}
 
 module _ (n b : ℕ) (m w : List Float) (r : CallResult) where
-  pub checks-refused : r ≡ factorChecks Packed n b m (length w) → accepted r ≡ false → DoneAs (factorize Packed n b m w) r m w
-  unfolding factorize
-  checks-refused e f = rw (ap accepted (sym e) ∙ f) (record { result = e; matrix = refl; work = refl })
-
-  pub checks-accepted : r ≡ factorChecks Packed n b m (length w) → accepted r ≡ true → FactorAccepted Packed n b m (length w)
-  checks-accepted e t = factor-accepted Packed n b m (length w) (rw (ap accepted (sym e) ∙ t) tt)
-
   pub columns-done :
       (checks : CallResult) (m′ : List Float) → checks ≡ factorChecks Packed n b m (length w) → accepted checks ≡ true → Factored n m r m′ →
       DoneAs (factorize Packed n b m w) r m′ (replicate n zero64 ++ drop n w)

@@ -1,10 +1,9 @@
--- The rows of a column of packed memory: where they stand, and how they are reduced by one column more. Row i of column k is i places past
+-- The rows of a column of packed memory: where they stand, and how they are reduced by more columns. Row i of column k is i places past
 -- packedPlace n 0 k. Assumes nothing.
 use Prim.Native.Nat.{ℕ, _+_, _-_, _≤_, _<_}
-use native.Mathlib.Numerals.{add-one}
 use native.Mathlib.Omega.{arith}
 use native.Mathlib.Decide.{decLt}
-use mathlib.Core.Path.{_≡_, refl, ap, ap₂, _∙_}
+use mathlib.Core.Path.{_≡_, refl, sym, ap, _∙_}
 use mathlib.Core.List.{List}
 use lib.ListN.{length, getD, set}
 use lib.Ieee.{Float, nan, binary64, mul, sub}
@@ -14,8 +13,10 @@ use Rattle.shape.proofs.Columns.{packed-place-next-diagonal}
 use Rattle.shape.proofs.Bijections.{packed-bijection}
 use Rattle.shape.proofs.Bounds.{triangle-le}
 use Rattle.calls.specs.Arithmetic.{minusProducts}
-use Rattle.plain_factor.proofs.Fills.{filled-none, filled-more}
-use Rattle.plain_factor.specs.Steps.{Column, Filled, reduced, PartlyReduced, Tile, ReducedTile, lessProduct}
+use Rattle.kernels.specs.Kernels.{Replaced}
+use Rattle.kernels.proofs.Parts.{filled-same, filled-at, filled-here, filled-append}
+use Rattle.kernels.proofs.Products.{minus-none, minus-next, minus-add}
+use Rattle.plain_factor.specs.Steps.{Column, lessProducts, reduced, Waiting, TileReduced, RowsReduced, GroupReduced, PairReduced}
 
 -- ---- places
 
@@ -34,64 +35,146 @@ row-place-lt n i k h inside =
     omega (arith, packed-bijection n .below (n - 1) k last, row-place n (n - 1) k)
 
 -- every place fits 64 bits
-pub row-place-le : (n j i k : ℕ) (m : List Float) → Column n j m → k < n → i < n → (packedPlace n 0 k + i < length m) × (packedPlace n 0 k + i < 8002000)
-row-place-le n j i k m s h inside =
+pub row-place-le :
+    {n j : ℕ} {m : List Float} (i k : ℕ) → Column n j m → k < n → i < n →
+    (packedPlace n 0 k + i < length m) × (packedPlace n 0 k + i < 8002000)
+row-place-le {n} i k s h inside =
     (omega (arith, row-place-lt n i k h inside, s .size), omega (arith, row-place-lt n i k h inside, triangle-le n (s .order)))
 
--- ---- reduction by one column more
+-- column k + c + 1 starts as far past column k + c as that has rows below its diagonal
+pub start-next : (n k c start : ℕ) → k + c < n → start ≡ packedPlace n 0 (k + c) → start + (n - k - c - 1) ≡ packedPlace n 0 (k + (c + 1))
+start-next n k c start h e =
+    let up : k + (c + 1) ≡ k + c + 1 = omega arith in
+    rw up (omega (arith, row-place-next n (k + c) (omega arith)))
+
+-- ---- reduction by more columns
 
 module _ (n : ℕ) (m : List Float) (j : ℕ) where
-  pub reduced-none : (i : ℕ) → reduced n m j 0 i ≡ getD m (packedPlace n 0 j + i) nan
-  unfolding reduced minusProducts
-  reduced-none i = ap (λ p. getD m p nan) (row-place n i j)
+  pub reduced-none : (i : ℕ) → getD m (packedPlace n 0 j + i) nan ≡ reduced n m j 0 i
+  unfolding reduced
+  reduced-none i = ap (λ p. getD m p nan) (sym (row-place n i j)) ∙ sym (minus-none _ _ _)
 
   pub reduced-next :
-      (k i : ℕ) (t : Float) → t ≡ reduced n m j k i →
-      sub binary64 t (mul binary64 (getD m (packedPlace n 0 k + i) nan) (getD m (packedPlace n 0 k + j) nan)) ≡ reduced n m j (k + 1) i
-  unfolding reduced minusProducts
-  reduced-next k i t e = rw (add-one, e, row-place n i k, row-place n j k)
+      (k i start : ℕ) (t : Float) → start ≡ packedPlace n 0 k → t ≡ reduced n m j k i →
+      sub binary64 t (mul binary64 (getD m (start + i) nan) (getD m (start + j) nan)) ≡ reduced n m j (k + 1) i
+  unfolding reduced
+  reduced-next k i start t e h = rw (minus-next, e, h, row-place n i k, row-place n j k)
 
-  pub reduced-tile-next :
-      (k i start : ℕ) (tile tile′ : List Float) → start ≡ packedPlace n 0 k → ReducedTile n m j k i tile →
-      Tile (lessProduct tile (getD m (start + j) nan) m (start + i)) tile′ → ReducedTile n m j (k + 1) i tile′
-  reduced-tile-next k i start tile tile′ e before step r h low =
-      let here : start + i + r ≡ packedPlace n 0 k + (i + r) = omega arith in
-      let there : start + j ≡ packedPlace n 0 k + j = omega arith in
-      step r h
-      ∙ ap₂ (λ p q. sub binary64 (getD tile r nan) (mul binary64 (getD m p nan) (getD m q nan))) here there
-      ∙ reduced-next k (i + r) (getD tile r nan) (before r h low)
+  -- the rows that wait, reduced by column j − 1 too
+  pub waiting-next :
+      (top last : ℕ) (w : List Float) → 0 < j → last ≡ packedPlace n 0 (j - 1) → Waiting n m j (j - 1) top w → (i : ℕ) → top ≤ i → i < n →
+      sub binary64 (getD w (i - top) nan) (mul binary64 (getD m (last + i) nan) (getD m (last + j) nan)) ≡ reduced n m j j i
+  waiting-next top last w pos e waiting i low h =
+      let row : top + (i - top) ≡ i = omega arith in
+      let all : j - 1 + 1 ≡ j = omega arith in
+      rw all at (reduced-next (j - 1) i last (getD w (i - top) nan) e (rw row at (waiting (i - top) (omega arith))))
 
--- ---- a part of the rows more
-
-module _ {n : ℕ} {m : List Float} {j k end : ℕ} {w : List Float} (i : ℕ) (before : PartlyReduced n m j k end i w) where
-  -- rows from i to `to` − 1 are set to their values
-  pub part-stored :
-      (value : ℕ → Float) (to : ℕ) (w′ : List Float) → i ≤ to → Filled w value i to w′ →
-      ((q : ℕ) → j ≤ q → i ≤ q → q < to → value q ≡ reduced n m j end q) → PartlyReduced n m j k end to w′
-  part-stored value to w′ le f values =
-      record { done = λ q low h. put q low h (decLt q i); left = λ q low h inside. f .left q h ∙ before .left q low (omega arith) inside }
+  pub reduced-more : (k count i : ℕ) (x : Float) → x ≡ reduced n m j k i → lessProducts n m j k count i x ≡ reduced n m j (k + count) i
+  unfolding reduced lessProducts
+  reduced-more k count i x e =
+      ap (minusProducts (λ c. row (k + c)) (λ c. pivot (k + c)) count) e ∙ sym (minus-add row pivot k count (getD m (packedPlace n i j) nan))
     where
-      put : (q : ℕ) → j ≤ q → q < to → Dec (q < i) → getD w′ q nan ≡ reduced n m j end q
-      put q low h (yes p) = f .before q p ∙ before .done q low p
-      put q low h (no p) = f .done q (omega arith) h ∙ values q low (omega arith) h
+      row : ℕ → Float
+      row c = getD m (packedPlace n i c) nan
 
-  pub tile-loaded : (tile : List Float) → i + 16 ≤ n → Tile (λ r. getD w (i + r) nan) tile → ReducedTile n m j k i tile
-  tile-loaded tile fit t r h low = t r h ∙ before .left (i + r) low (omega arith) (omega arith)
+      pivot : ℕ → Float
+      pivot c = getD m (packedPlace n j c) nan
 
-  pub tile-stored :
-      (tile w′ : List Float) → ReducedTile n m j end i tile → Filled w (λ p. getD tile (p - i) nan) i (i + 16) w′ →
-      PartlyReduced n m j k end (i + 16) w′
-  tile-stored tile w′ t f =
-      part-stored (λ p. getD tile (p - i) nan) (i + 16) w′ (omega arith) f
-      (λ q low from to.
-      let row : i + (q - i) ≡ q = omega arith in
-      let inside : j ≤ i + (q - i) = omega arith in
-      t (q - i) (omega arith) inside ∙ ap (reduced n m j end) row)
+  module _ (k : ℕ) where
+    pub less-none : (i : ℕ) (x : Float) → x ≡ lessProducts n m j k 0 i x
+    unfolding lessProducts
+    less-none i x = sym (minus-none _ _ x)
 
-  pub row-stored : (x : Float) → i < length w → x ≡ reduced n m j end i → PartlyReduced n m j k end (i + 1) (set w i x)
-  row-stored x fit e =
-      part-stored (λ p. x) (i + 1) (set w i x) (omega arith)
-      (filled-more w (λ p. x) i i (i + 1) x (filled-none w (λ p. x) i) (omega arith) fit refl refl)
-      (λ q low from to.
-      let row : i ≡ q = omega arith in
-      e ∙ ap (reduced n m j end) row)
+    pub less-next :
+        (c i start : ℕ) (x t : Float) → start ≡ packedPlace n 0 (k + c) → t ≡ lessProducts n m j k c i x →
+        sub binary64 t (mul binary64 (getD m (start + i) nan) (getD m (start + j) nan)) ≡ lessProducts n m j k (c + 1) i x
+    unfolding lessProducts
+    less-next c i start x t e h = rw (minus-next, e, h, row-place n i (k + c), row-place n j (k + c))
+
+    pub tile-next :
+        (c i start : ℕ) (tile t t′ : List Float) → start ≡ packedPlace n 0 (k + c) → TileReduced n m j k c i tile t →
+        ((r : ℕ) → r < 16 → getD t′ r nan ≡ sub binary64 (getD t r nan) (mul binary64 (getD m (start + i + r) nan) (getD m (start + j) nan))) →
+        TileReduced n m j k (c + 1) i tile t′
+    tile-next c i start tile t t′ e before step r h =
+        let here : start + i + r ≡ start + (i + r) = omega arith in
+        step r h
+        ∙ ap (λ p. sub binary64 (getD t r nan) (mul binary64 (getD m p nan) (getD m (start + j) nan))) here
+        ∙ less-next c (i + r) start (getD tile r nan) (getD t r nan) e (before r h)
+
+    pub part-stored :
+        (count i s : ℕ) (w w′ tile tile′ : List Float) → ((r : ℕ) → r < 16 → getD tile r nan ≡ getD w (s + r) nan) →
+        TileReduced n m j k count i tile tile′ →
+        Replaced nan s 16 w tile′ w′ → RowsReduced n m j k count i s 16 w w′
+    part-stored count i s w w′ tile tile′ loaded done =
+        filled-same nan s 16 (λ r. getD tile′ r nan) (λ r. lessProducts n m j k count (i + r) (getD w (s + r) nan)) w w′
+        (λ r h. done r h ∙ ap (lessProducts n m j k count (i + r)) (loaded r h))
+
+-- ---- more rows
+
+module _ (n : ℕ) (m : List Float) (j k count : ℕ) where
+  -- what row i at place i becomes
+  abbrev row : List Float → ℕ → Float
+  row w i = lessProducts n m j k count i (getD w i nan)
+
+  pub row-next :
+      (first i : ℕ) (w₀ w : List Float) (x : Float) → first ≤ i → i < length w₀ → RowsReduced n m j k count first first (i - first) w₀ w →
+      x ≡ row w i → RowsReduced n m j k count first first (i + 1 - first) w₀ (set w i x)
+  row-next first i w₀ w x low fit so e =
+      filled-at nan first i (row w₀) w₀ w x low fit so (e ∙ ap (lessProducts n m j k count i) (so .after i (omega arith)))
+
+  pub rows-append :
+      (first i c : ℕ) (w₀ w w′ : List Float) → first ≤ i → RowsReduced n m j k count first first (i - first) w₀ w →
+      RowsReduced n m j k count i i c w w′ → RowsReduced n m j k count first first (i + c - first) w₀ w′
+  rows-append first i c w₀ w w′ low so more =
+      let end : i + c - first ≡ i - first + c = omega arith in
+      rw end
+      (filled-append nan first (i - first) i c (λ r. row w₀ (first + r)) (λ r. row w (i + r)) w₀ w w′ (omega arith) so more
+      (λ r h.
+      let here : i + r ≡ first + (i - first + r) = omega arith in
+      ap (lessProducts n m j k count (i + r)) (so .after (i + r) (omega arith)) ∙ ap (row w₀) here))
+
+  pub group-reduced :
+      (first to : ℕ) (w w′ : List Float) → first ≤ j → j ≤ first + 15 → j ≤ to → RowsReduced n m j k count first first (to - first) w w′ →
+      GroupReduced n m j k count to w w′
+  group-reduced first to w w′ low near le so =
+      record {
+        rows = λ i h h′. filled-here nan (row w) so i (omega arith) (omega arith);
+        before = λ p h h′. so .before p (omega arith);
+        after = λ p h h′. so .after p (omega arith);
+      }
+
+  pub pair-none : (top : ℕ) (w : List Float) → PairReduced n m j k count top 0 w w
+  pair-none top w =
+      record {
+        column = λ i low h. absurd (omega arith);
+        front = λ r h. absurd (omega arith);
+        between = λ p low h. refl;
+        after = λ p low h. refl;
+      }
+
+  pub pair-next :
+      (top i : ℕ) (w₀ w w₁ w₂ : List Float) → top ≤ i → i + 16 ≤ n → i - top + 16 ≤ top → PairReduced n m j k count top (i - top) w₀ w →
+      RowsReduced n m j k count i i 16 w w₁ → RowsReduced n m (j + 1) k count i (i - top) 16 w₁ w₂ →
+      PairReduced n m j k count top (i + 16 - top) w₀ w₂
+  pair-next top i w₀ w w₁ w₂ low fit room so first second =
+      record {
+        column = λ q h h′.
+            second .after q (omega arith)
+            ∙ elim (decLt q i) [
+              | yes p ↦ first .before q p ∙ so .column q h (omega arith)
+              | no p ↦
+                  filled-here nan (row w) first q (omega arith) (omega arith)
+                  ∙ ap (lessProducts n m j k count q) (so .after q (omega arith) (omega arith))
+            ];
+        front = λ r h.
+            elim (decLt r (i - top)) [
+              | yes p ↦ second .before r p ∙ first .before r (omega arith) ∙ so .front r p
+              | no p ↦
+                  let place : i - top + (r - (i - top)) ≡ r = omega arith in
+                  let here : i + (r - (i - top)) ≡ top + r = omega arith in
+                  rw (place, here) at (second .inside (r - (i - top)) (omega arith))
+                  ∙ ap (lessProducts n m (j + 1) k count (top + r)) (first .before r (omega arith) ∙ so .between r (omega arith) (omega arith))
+            ];
+        between = λ p h h′. second .after p (omega arith) ∙ first .before p (omega arith) ∙ so .between p (omega arith) h′;
+        after = λ p h h′. second .after p (omega arith) ∙ first .after p (omega arith) ∙ so .after p (omega arith) h′;
+      }

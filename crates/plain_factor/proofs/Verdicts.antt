@@ -4,25 +4,31 @@ use native.Mathlib.Numerals.{add-one}
 use native.Mathlib.Omega.{arith}
 use mathlib.Core.Path.{_≡_, refl, sym, ap, ap₂, _∙_}
 use mathlib.Core.Bool.{Bool, true, false, cond}
+use mathlib.Core.Logic.{_≢_}
 use mathlib.Core.List.{List, _∷_}
 use borrow.Rule.Slice.PartAt.{part-to-end}
 use lib.ListN.{length, getD, set, take, drop, length-drop}
 use lib.Seq.{getD-drop, drop-cons, getD-set-same, getD-set-other}
 use lib.Ieee.{Float, nan, binary64, div}
-use Rattle.binary64.specs.Kinds.{finite, positive, zero64}
+use Rattle.binary64.specs.Kinds.{finite, zero64}
 use Rattle.binary64.specs.Root.{root}
 use Rattle.binary64.specs.Judged.{judged}
 use Rattle.binary64.specs.declared.Pivot.{Pivot}
 use Rattle.binary64.specs.declared.Pivot.the-variants.{Root, Refused}
 use Rattle.shape.specs.Places.{packedPlace}
+use Rattle.shape.specs.Layouts.{Entry}
+use Rattle.shape.proofs.Bijections.{packed-bijection}
+use Rattle.calls.specs.declared.CallResult.{CallResult}
 use Rattle.calls.specs.Sequences.{all}
 use Rattle.calls.specs.Triangles.{Triangle, entry, height, storeColumn}
 use Rattle.calls.specs.Arithmetic.{minusProducts, pivot, quotient, below, factorColumn}
-use Rattle.calls.specs.Refusals.{success, refusal, firstRefusal, rule11, columnRules}
+use Rattle.calls.specs.Refusals.{success, refusal, accepted, firstRefusal, rule11, columnRules}
 use Rattle.calls.proofs.Sequences.{tabulate-of}
-use Rattle.calls.proofs.Triangles.{entry-load}
-use Rattle.calls.proofs.Columns.{products-same}
-use Rattle.plain_factor.specs.Steps.{Column, Filled, reduced, Reduced, held, Divided, Judged}
+use Rattle.calls.proofs.Triangles.{entry-load, column-other}
+use Rattle.calls.proofs.Columns.{length-column, products-same}
+use Rattle.kernels.proofs.Parts.{filled-here}
+use Rattle.calls.proofs.Judging.{judged-root}
+use Rattle.plain_factor.specs.Steps.{Column, reduced, Reduced, held, RowsDivided, Divided, Judged}
 
 -- ---- formulas
 
@@ -68,14 +74,6 @@ module _ (n j : ℕ) (m : List Float) where
 
 -- ---- verdicts
 
-pub judged-root : (x d : Float) → judged x ≡ Root d → d ≡ root x
-unfolding judged
-judged-root x d e = go (positive x) e
-  where
-    go : (b : Bool) → cond b (Root (root x)) (Refused x) ≡ Root d → d ≡ root x
-    go true e = cc
-    go false e = let z : _≡_ {A = ℕ} 0 1 = cc in absurd (omega arith)
-
 module _ (heightOf : ℕ → ℕ) (a l : Triangle) (j : ℕ) where
   pub column-pivot-refused : (v : Float) → judged (pivot a l j) ≡ Refused v → columnRules heightOf a l j ≡ refusal 10 j v
   unfolding columnRules firstRefusal
@@ -94,13 +92,14 @@ module _ (heightOf : ℕ → ℕ) (a l : Triangle) (j : ℕ) where
 -- ---- a column judged
 
 pub rows-divided :
-    (j : ℕ) (d : Float) (w v : List Float) → j < length w →
-    Filled w (λ i. div binary64 (getD w i nan) d) (j + 1) (length w) v →
+    (j : ℕ) (d : Float) (w v : List Float) → j < length w → RowsDivided (j + 1) d w v →
     Divided j d w (set v j d) (all finite (take (length (set v j d) - (j + 1)) (drop (j + 1) (set v j d))))
 rows-divided j d w v inside f =
     record {
+      before = λ p low h. getD-set-other v j p d nan (λ g. omega arith) ∙ f .before p (omega arith);
       diagonal = getD-set-same v j d nan (omega (arith, f .size));
-      rows = λ i low h. getD-set-other v j i d nan (λ g. omega arith) ∙ f .done i (omega arith) h;
+      rows = λ i low h.
+          getD-set-other v j i d nan (λ g. omega arith) ∙ filled-here nan (λ p. div binary64 (getD w p nan) d) f i (omega arith) (omega arith);
       finites = ap (all finite) (part-to-end (set v j d) (j + 1));
     }
 
@@ -111,12 +110,14 @@ module _ (n j : ℕ) (m w : List Float) (s : Column n j m) (size : length w ≡ 
   pub pivot-refused : (v : Float) → judged (getD w j nan) ≡ Refused v → Judged n j m (refusal 10 j v) m
   pivot-refused v e = record { result = sym (column-pivot-refused (height n) (held n m) (held n m) j v (column-pivot e)); matrix = refl }
 
-  module _ (d : Float) (w′ : List Float) (finiteRows : Bool) (e : judged (getD w j nan) ≡ Root d) (size′ : length w′ ≡ n) (divided : Divided j d w w′ finiteRows) where
+  module _ (d : Float) (w′ : List Float) (finiteRows : Bool) (e : judged (getD w j nan) ≡ Root d) (size′ : length w′ ≡ n)
+      (divided : Divided j d w w′ finiteRows) where
     root-is : d ≡ root (pivot (held n m) (held n m) j)
     root-is = judged-root (pivot (held n m) (held n m) j) d (column-pivot e)
 
     finite-below : {b : Bool} → finiteRows ≡ b → all finite (below (height n) (held n m) j (held n m)) ≡ b
-    finite-below f = ap (all finite) (sym (below-held n j m w w′ d finiteRows size size′ (s .column) rows divided root-is)) ∙ sym (divided .finites) ∙ f
+    finite-below f =
+        ap (all finite) (sym (below-held n j m w w′ d finiteRows size size′ (s .column) rows divided root-is)) ∙ sym (divided .finites) ∙ f
 
     pub rows-refused : finiteRows ≡ false → Judged n j m (refusal 11 j zero64) m
     rows-refused f =
@@ -130,3 +131,29 @@ module _ (n j : ℕ) (m w : List Float) (s : Column n j m) (size : length w ≡ 
               stored
               ∙ ap (λ c. storeColumn (packedPlace n) j c m) (column-held n j m w w′ d finiteRows size size′ (s .column) rows divided root-is);
         }
+
+-- ---- what a column leaves
+
+module _ (n j : ℕ) (m m′ : List Float) (r : CallResult) (inside : j < n) (g : Judged n j m r m′) where
+  -- the other columns are as they were
+  others-kept : (i c : ℕ) → Entry n i c → c ≢ j → getD m′ (packedPlace n i c) nan ≡ getD m (packedPlace n i c) nan
+  others-kept i c e ne = ap (λ x. getD x (packedPlace n i c) nan) (g .matrix) ∙ go (accepted r)
+    where
+      column : List Float
+      column = factorColumn (height n) (held n m) j (held n m)
+
+      go : (b : Bool) → getD (cond b (storeColumn (packedPlace n) j column m) m) (packedPlace n i c) nan ≡ getD m (packedPlace n i c) nan
+      go true = column-other (packedPlace n) n (packed-bijection n) column m i c j nan e ne (length-column n (held n m) j (held n m) inside)
+      go false = refl
+
+  -- and so the rows of the next one that wait are reduced in the memory after it as before
+  pub waiting-kept : (i : ℕ) → j < i → i < n → reduced n m (j + 1) j i ≡ reduced n m′ (j + 1) j i
+  unfolding reduced
+  waiting-kept i low h =
+      sym
+      (products-same (λ c. getD m′ (packedPlace n i c) nan) (λ c. getD m (packedPlace n i c) nan) (λ c. getD m′ (packedPlace n (j + 1) c) nan)
+      (λ c. getD m (packedPlace n (j + 1) c) nan) j (getD m′ (packedPlace n i (j + 1)) nan)
+      (λ c p. others-kept i c (record { lower = omega arith; inside = h }) (λ e. omega arith))
+      (λ c p. others-kept (j + 1) c (record { lower = omega arith; inside = omega arith }) (λ e. omega arith))
+      ∙ ap (minusProducts (λ c. getD m (packedPlace n i c) nan) (λ c. getD m (packedPlace n (j + 1) c) nan) j)
+      (others-kept i (j + 1) (record { lower = omega arith; inside = h }) (λ e. omega arith)))

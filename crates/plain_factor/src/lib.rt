@@ -1,14 +1,15 @@
-// The plain factor. A column is formed in the work memory and written to the matrix once it is accepted.
+// The plain factor. A column is formed in the work memory and written to the matrix once it is accepted. Where there is room, the lower rows of the
+// column after it are reduced in the same pass over the matrix, and wait at the front of the work memory.
 ghost use mathlib.Core.Path.{_≡_};
 ghost use Prim.Native.Nat.{_+_, _-_, _%_, _≤_, _<_};
-ghost use lib.ListN.{length, getD, drop, replicate};
-ghost use lib.Ieee.{binary64, nan, div};
+ghost use lib.ListN.{length, drop, replicate};
 ghost use Rattle.binary64.specs.Kinds.{zero64};
 ghost use Rattle.shape.specs.Bounds.{maxOrder};
 ghost use Rattle.shape.specs.Places.{triangle, packedPlace};
 ghost use Rattle.calls.specs.Triangles.{storeColumn};
 ghost use Rattle.calls.specs.Calls.{DoneAs, factorize};
-ghost use Rattle.plain_factor.specs.Steps.{Column, Filled, Divided, Judged, Factored, Group, PartlyReduced, reduced, Reduced, ReducedTile, lessProduct, Tile};
+ghost use Rattle.plain_factor.specs.Steps.{Column, Group, Room, Tops, Same, lessProducts, TileReduced, RowsReduced, GroupReduced, PairReduced};
+ghost use Rattle.plain_factor.specs.Steps.{Reduced, Waiting, Formed, RowsDivided, Divided, Judged, Factored};
 use binary64::Pivot;
 use calls::CallResult;
 use calls::Layout;
@@ -16,149 +17,113 @@ use shape::Shape;
 
 // The place of entry (i, k), less i. The product is even, so the division is exact.
 fn row_start(n: usize, k: usize) -> usize
-    requires { ⌜ (n ≤ maxOrder) × (k < n) ⌝ }
+    requires { ⌜ (n ≤ maxOrder) × (0 < n) × (k ≤ n) ⌝ }
     ensures { λ r. ⌜ r ≡ packedPlace n 0 k ⌝ }
 {
     k * (2 * n - k - 1) / 2
 }
 
-// The tile less x times the values of the matrix from `at` on.
-fn subtract_products(tile: [f64; 16], x: f64, matrix: &[f64], at: usize) -> [f64; 16]
-    requires { ⌜ at + 16 ≤ length (now matrix) ⌝ }
-    ensures { λ next. ⌜ Tile (lessProduct tile x (now (matrix .entry)) at) next ⌝ }
-{
-    let mut next = tile;
-    let mut r = 0;
-    while r < 16 {
-        next[r] = next[r] - matrix[at + r] * x;
-        r += 1;
-    }
-    next
-}
-
-// The rows of a tile from row i on, reduced by the columns from k to `end` − 1.
+// The rows of a tile from row i on, less their products in `count` columns from column k on.
 fn reduce_tile(
     tile: [f64; 16],
     matrix: &[f64],
     n: usize,
     j: usize,
     k: usize,
-    end: usize,
+    count: usize,
     base: usize,
     i: usize,
 ) -> [f64; 16]
     requires { ⌜ Column n j (now matrix) ⌝ }
-    requires { ⌜ Group n j k end base ⌝ }
+    requires { ⌜ Group n j k count base ⌝ }
     requires { ⌜ i + 16 ≤ n ⌝ }
-    requires { ⌜ ReducedTile n (now matrix) j k i tile ⌝ }
-    ensures { λ r. ⌜ ReducedTile n (now (matrix .entry)) j end i r ⌝ }
+    ensures { λ r. ⌜ TileReduced n (now (matrix .entry)) j k count i tile r ⌝ }
 {
     let mut reduced = tile;
     let mut start = base;
-    let mut c = k;
-    while c < end {
-        let next = subtract_products(reduced, matrix[start + j], matrix, start + i);
+    let mut c = 0;
+    while c < count {
+        let next = kernels::step16(reduced, matrix, start + i, matrix[start + j]);
         reduced = next;
-        start += n - c - 1;
+        start += n - k - c - 1;
         c += 1;
     }
     reduced
 }
 
-// Row i reduced by the columns from k to `end` − 1.
+// Row i less its products in these columns.
 fn reduce_row(
     row: f64,
     matrix: &[f64],
     n: usize,
     j: usize,
     k: usize,
-    end: usize,
+    count: usize,
     base: usize,
     i: usize,
 ) -> f64
     requires { ⌜ Column n j (now matrix) ⌝ }
-    requires { ⌜ Group n j k end base ⌝ }
+    requires { ⌜ Group n j k count base ⌝ }
     requires { ⌜ i < n ⌝ }
-    requires { ⌜ row ≡ reduced n (now matrix) j k i ⌝ }
-    ensures { λ r. ⌜ r ≡ reduced n (now (matrix .entry)) j end i ⌝ }
+    ensures { λ r. ⌜ r ≡ lessProducts n (now (matrix .entry)) j k count i row ⌝ }
 {
     let mut rest = row;
     let mut start = base;
-    let mut c = k;
-    while c < end {
+    let mut c = 0;
+    while c < count {
         rest = rest - matrix[start + i] * matrix[start + j];
-        start += n - c - 1;
+        start += n - k - c - 1;
         c += 1;
     }
     rest
 }
 
-fn load_tile(work: &[f64], i: usize) -> [f64; 16]
-    requires { ⌜ i + 16 ≤ length (now work) ⌝ }
-    ensures { λ tile. ⌜ Tile (λ r. getD (now (work .entry)) (i + r) nan) tile ⌝ }
-{
-    let mut tile = [0.0; 16];
-    let mut r = 0;
-    while r < 16 {
-        tile[r] = work[i + r];
-        r += 1;
-    }
-    tile
-}
-
-fn store_tile(work: &mut [f64], i: usize, tile: [f64; 16])
-    requires { ⌜ i + 16 ≤ length (now work) ⌝ }
-    ensures { λ _. ⌜ Filled (now (work .entry)) (λ p. getD tile (p - i) nan) i (i + 16) (now (work .exit)) ⌝ }
-{
-    let mut r = 0;
-    while r < 16 {
-        work[i + r] = tile[r];
-        r += 1;
-    }
-}
-
-// The 16 rows from row i on, reduced by the columns from k to `end` − 1. Rows above the column do not count.
+// The 16 rows from row i on, which lie from place s on. A whole group has its count written out, so that its loop is unrolled.
 fn reduce_part(
     work: &mut [f64],
     matrix: &[f64],
     n: usize,
     j: usize,
     k: usize,
-    end: usize,
+    count: usize,
     base: usize,
     i: usize,
+    s: usize,
 )
     requires { ⌜ Column n j (now matrix) ⌝ }
-    requires { ⌜ (length (now work) ≡ n) × (i + 16 ≤ n) ⌝ }
-    requires { ⌜ Group n j k end base ⌝ }
-    requires { ⌜ PartlyReduced n (now matrix) j k end i (now work) ⌝ }
-    ensures { λ _. ⌜ PartlyReduced n (now (matrix .entry)) j k end (i + 16) (now (work .exit)) ⌝ }
+    requires { ⌜ Group n j k count base ⌝ }
+    requires { ⌜ (i + 16 ≤ n) × (s + 16 ≤ length (now work)) ⌝ }
+    ensures { λ _. ⌜ RowsReduced n (now (matrix .entry)) j k count i s 16 (now (work .entry)) (now (work .exit)) ⌝ }
 {
-    let tile = load_tile(work, i);
-    let reduced = reduce_tile(tile, matrix, n, j, k, end, base, i);
-    store_tile(work, i, reduced);
+    let tile = kernels::load16(work, s);
+    let reduced = if count == 8 {
+        reduce_tile(tile, matrix, n, j, k, 8, base, i)
+    } else {
+        reduce_tile(tile, matrix, n, j, k, count, base, i)
+    };
+    kernels::store16(work, s, reduced);
 }
 
-// The rows from `first` on, in tiles, the last of which ends with row n − 1.
+// The rows from `first` to `to` − 1, in tiles.
 fn reduce_tiles(
     work: &mut [f64],
     matrix: &[f64],
     n: usize,
     j: usize,
     k: usize,
-    end: usize,
+    count: usize,
     base: usize,
     first: usize,
+    to: usize,
 )
     requires { ⌜ Column n j (now matrix) ⌝ }
-    requires { ⌜ (length (now work) ≡ n) × (first ≤ n) × ((n - first) % 16 ≡ 0) ⌝ }
-    requires { ⌜ Group n j k end base ⌝ }
-    requires { ⌜ PartlyReduced n (now matrix) j k end first (now work) ⌝ }
-    ensures { λ _. ⌜ PartlyReduced n (now (matrix .entry)) j k end n (now (work .exit)) ⌝ }
+    requires { ⌜ Group n j k count base ⌝ }
+    requires { ⌜ (length (now work) ≡ n) × (first ≤ to) × (to ≤ n) × ((to - first) % 16 ≡ 0) ⌝ }
+    ensures { λ _. ⌜ RowsReduced n (now (matrix .entry)) j k count first first (to - first) (now (work .entry)) (now (work .exit)) ⌝ }
 {
     let mut i = first;
-    while i < n {
-        reduce_part(work, matrix, n, j, k, end, base, i);
+    while i < to {
+        reduce_part(work, matrix, n, j, k, count, base, i, i);
         i += 16;
     }
 }
@@ -170,90 +135,211 @@ fn reduce_rows(
     n: usize,
     j: usize,
     k: usize,
-    end: usize,
+    count: usize,
     base: usize,
     to: usize,
 )
     requires { ⌜ Column n j (now matrix) ⌝ }
+    requires { ⌜ Group n j k count base ⌝ }
     requires { ⌜ (length (now work) ≡ n) × (j ≤ to) × (to ≤ n) ⌝ }
-    requires { ⌜ Group n j k end base ⌝ }
-    requires { ⌜ PartlyReduced n (now matrix) j k end j (now work) ⌝ }
-    ensures { λ _. ⌜ PartlyReduced n (now (matrix .entry)) j k end to (now (work .exit)) ⌝ }
+    ensures { λ _. ⌜ RowsReduced n (now (matrix .entry)) j k count j j (to - j) (now (work .entry)) (now (work .exit)) ⌝ }
 {
     let mut i = j;
     while i < to {
-        work[i] = reduce_row(work[i], matrix, n, j, k, end, base, i);
+        work[i] = reduce_row(work[i], matrix, n, j, k, count, base, i);
         i += 1;
     }
 }
 
-// All rows, reduced by the columns from k to `end` − 1.
+// The rows before `to`, reduced by the group. Rows above the column do not count.
 fn reduce_group(
     work: &mut [f64],
     matrix: &[f64],
     n: usize,
     j: usize,
     k: usize,
-    end: usize,
+    count: usize,
     base: usize,
+    to: usize,
 )
     requires { ⌜ Column n j (now matrix) ⌝ }
-    requires { ⌜ length (now work) ≡ n ⌝ }
-    requires { ⌜ Group n j k end base ⌝ }
-    requires { ⌜ Reduced n (now matrix) j k j n (now work) ⌝ }
-    ensures { λ _. ⌜ Reduced n (now (matrix .entry)) j end j n (now (work .exit)) ⌝ }
+    requires { ⌜ Group n j k count base ⌝ }
+    requires { ⌜ (length (now work) ≡ n) × (j ≤ to) × (to ≤ n) ⌝ }
+    ensures { λ _. ⌜ GroupReduced n (now (matrix .entry)) j k count to (now (work .entry)) (now (work .exit)) ⌝ }
 {
-    let rest = n % 16;
+    let rest = to % 16;
     if j < rest {
-        reduce_rows(work, matrix, n, j, k, end, base, rest);
-        reduce_tiles(work, matrix, n, j, k, end, base, rest);
+        reduce_rows(work, matrix, n, j, k, count, base, rest);
+        reduce_tiles(work, matrix, n, j, k, count, base, rest, to);
     } else {
-        reduce_tiles(work, matrix, n, j, k, end, base, j - (j - rest) % 16);
+        reduce_tiles(work, matrix, n, j, k, count, base, j - (j - rest) % 16, to);
     }
 }
 
-// Where the group of columns that begins with column k ends.
-fn group_end(j: usize, k: usize) -> usize
+// How many columns the group that begins with column k has.
+fn group_count(j: usize, k: usize) -> usize
     requires { ⌜ k < j ⌝ }
-    ensures { λ r. ⌜ (k < r) × (r ≤ j) ⌝ }
+    ensures { λ r. ⌜ (0 < r) × (k + r ≤ j) ⌝ }
 {
-    if j - k < 8 { j } else { k + 8 }
+    if j - k < 8 { j - k } else { 8 }
 }
 
-// All rows, reduced by all columns before j, eight at a time.
-fn reduce_column(work: &mut [f64], matrix: &[f64], n: usize, j: usize)
+// The rows before `to`, reduced by all columns before j, eight at a time.
+fn reduce_column(work: &mut [f64], matrix: &[f64], n: usize, j: usize, to: usize)
     requires { ⌜ Column n j (now matrix) ⌝ }
-    requires { ⌜ length (now work) ≡ n ⌝ }
-    requires { ⌜ Reduced n (now matrix) j 0 j n (now work) ⌝ }
-    ensures { λ _. ⌜ Reduced n (now (matrix .entry)) j j j n (now (work .exit)) ⌝ }
+    requires { ⌜ (length (now work) ≡ n) × (j ≤ to) × (to ≤ n) ⌝ }
+    requires { ⌜ Reduced n (now matrix) j 0 j to (now work) ⌝ }
+    ensures { λ _. ⌜ Reduced n (now (matrix .entry)) j j j to (now (work .exit)) ⌝ }
+    ensures { λ _. ⌜ Same 0 (j - 15) (now (work .entry)) (now (work .exit)) ⌝ }
+    ensures { λ _. ⌜ Same to n (now (work .entry)) (now (work .exit)) ⌝ }
 {
     let mut k = 0;
     while k < j {
-        let end = group_end(j, k);
+        let count = group_count(j, k);
         let base = row_start(n, k);
-        reduce_group(work, matrix, n, j, k, end, base);
-        k = end;
+        reduce_group(work, matrix, n, j, k, count, base, to);
+        k += count;
     }
 }
 
-// The column's entry values, row i at i.
-fn load_column(work: &mut [f64], matrix: &[f64], n: usize, j: usize, base: usize)
+// The rows from `top` on of column j, row i at i, and of column j + 1, row i at i − top, reduced by the group.
+fn reduce_pair_tiles(
+    work: &mut [f64],
+    matrix: &[f64],
+    n: usize,
+    j: usize,
+    k: usize,
+    count: usize,
+    base: usize,
+    top: usize,
+)
+    requires { ⌜ Column n j (now matrix) ⌝ }
+    requires { ⌜ Group n j k count base ⌝ }
+    requires { ⌜ length (now work) ≡ n ⌝ }
+    requires { ⌜ Room n (j + 1) top ⌝ }
+    ensures { λ _. ⌜ PairReduced n (now (matrix .entry)) j k count top (n - top) (now (work .entry)) (now (work .exit)) ⌝ }
+{
+    let mut i = top;
+    while i < n {
+        reduce_part(work, matrix, n, j, k, count, base, i, i);
+        reduce_part(work, matrix, n, j + 1, k, count, base, i, i - top);
+        i += 16;
+    }
+}
+
+// Those rows, reduced by all columns before j, eight at a time.
+fn reduce_pair(work: &mut [f64], matrix: &[f64], n: usize, j: usize, top: usize)
     requires { ⌜ Column n j (now matrix) ⌝ }
     requires { ⌜ length (now work) ≡ n ⌝ }
-    requires { ⌜ base ≡ packedPlace n 0 j ⌝ }
-    ensures { λ _. ⌜ Reduced n (now (matrix .entry)) j 0 j n (now (work .exit)) ⌝ }
+    requires { ⌜ Room n (j + 1) top ⌝ }
+    requires { ⌜ Reduced n (now matrix) j 0 top n (now work) ⌝ }
+    requires { ⌜ Waiting n (now matrix) (j + 1) 0 top (now work) ⌝ }
+    ensures { λ _. ⌜ Reduced n (now (matrix .entry)) j j top n (now (work .exit)) ⌝ }
+    ensures { λ _. ⌜ Waiting n (now (matrix .entry)) (j + 1) j top (now (work .exit)) ⌝ }
+    ensures { λ _. ⌜ Same (n - top) top (now (work .entry)) (now (work .exit)) ⌝ }
 {
+    let mut k = 0;
+    while k < j {
+        let count = group_count(j, k);
+        let base = row_start(n, k);
+        reduce_pair_tiles(work, matrix, n, j, k, count, base, top);
+        k += count;
+    }
+}
+
+// The entry values of the column's rows before `to`, row i at i.
+fn load_column(work: &mut [f64], matrix: &[f64], n: usize, j: usize, to: usize)
+    requires { ⌜ Column n j (now matrix) ⌝ }
+    requires { ⌜ (length (now work) ≡ n) × (j ≤ to) × (to ≤ n) ⌝ }
+    ensures { λ _. ⌜ Reduced n (now (matrix .entry)) j 0 j to (now (work .exit)) ⌝ }
+    ensures { λ _. ⌜ Same to n (now (work .entry)) (now (work .exit)) ⌝ }
+{
+    let base = row_start(n, j);
     let mut i = j;
-    while i < n {
+    while i < to {
         work[i] = matrix[base + i];
         i += 1;
+    }
+}
+
+// The entry values of column j + 1's rows from `top` on, row i at i − top.
+fn load_waiting(work: &mut [f64], matrix: &[f64], n: usize, j: usize, top: usize)
+    requires { ⌜ Column n j (now matrix) ⌝ }
+    requires { ⌜ length (now work) ≡ n ⌝ }
+    requires { ⌜ Room n (j + 1) top ⌝ }
+    ensures { λ _. ⌜ Waiting n (now (matrix .entry)) (j + 1) 0 top (now (work .exit)) ⌝ }
+    ensures { λ _. ⌜ Same (n - top) n (now (work .entry)) (now (work .exit)) ⌝ }
+{
+    let base = row_start(n, j + 1);
+    let mut i = top;
+    while i < n {
+        work[i - top] = matrix[base + i];
+        i += 1;
+    }
+}
+
+// The rows from `top` on, brought from the front to their places and reduced by column j − 1.
+fn take_waiting(work: &mut [f64], matrix: &[f64], n: usize, j: usize, top: usize)
+    requires { ⌜ Column n j (now matrix) ⌝ }
+    requires { ⌜ length (now work) ≡ n ⌝ }
+    requires { ⌜ (top < n) × Room n j top ⌝ }
+    requires { ⌜ Waiting n (now matrix) j (j - 1) top (now work) ⌝ }
+    ensures { λ _. ⌜ Reduced n (now (matrix .entry)) j j top n (now (work .exit)) ⌝ }
+{
+    let last = row_start(n, j - 1);
+    let x = matrix[last + j];
+    let mut i = top;
+    while i < n {
+        work[i] = work[i - top] - matrix[last + i] * x;
+        i += 1;
+    }
+}
+
+// Column j, and the rows from `next` on of column j + 1, reduced by the columns before j.
+fn form_pair(work: &mut [f64], matrix: &[f64], n: usize, j: usize, next: usize)
+    requires { ⌜ Column n j (now matrix) ⌝ }
+    requires { ⌜ length (now work) ≡ n ⌝ }
+    requires { ⌜ Room n (j + 1) next ⌝ }
+    ensures { λ _. ⌜ Formed n (now (matrix .entry)) j next (now (work .exit)) ⌝ }
+{
+    load_column(work, matrix, n, j, n);
+    load_waiting(work, matrix, n, j, next);
+    reduce_pair(work, matrix, n, j, next);
+    reduce_column(work, matrix, n, j, next);
+}
+
+// Column j, of which the rows from `top` on wait at the front.
+fn form_waiting(work: &mut [f64], matrix: &[f64], n: usize, j: usize, top: usize)
+    requires { ⌜ Column n j (now matrix) ⌝ }
+    requires { ⌜ length (now work) ≡ n ⌝ }
+    requires { ⌜ (top < n) × Room n j top ⌝ }
+    requires { ⌜ Waiting n (now matrix) j (j - 1) top (now work) ⌝ }
+    ensures { λ _. ⌜ Reduced n (now (matrix .entry)) j j j n (now (work .exit)) ⌝ }
+{
+    take_waiting(work, matrix, n, j, top);
+    load_column(work, matrix, n, j, top);
+    reduce_column(work, matrix, n, j, top);
+}
+
+// Column j, some rows of which wait, or the next rows of column j + 1 with it.
+fn form_column(work: &mut [f64], matrix: &[f64], n: usize, j: usize, top: usize, next: usize)
+    requires { ⌜ Column n j (now matrix) ⌝ }
+    requires { ⌜ length (now work) ≡ n ⌝ }
+    requires { ⌜ Tops n j top next ⌝ }
+    requires { ⌜ Waiting n (now matrix) j (j - 1) top (now work) ⌝ }
+    ensures { λ _. ⌜ Formed n (now (matrix .entry)) j next (now (work .exit)) ⌝ }
+{
+    if top < n {
+        form_waiting(work, matrix, n, j, top);
+    } else {
+        form_pair(work, matrix, n, j, next);
     }
 }
 
 // The rows from `from` on divided by the diagonal value.
 fn divide(work: &mut [f64], from: usize, diagonal: f64)
     requires { ⌜ from ≤ length (now work) ⌝ }
-    ensures { λ _. ⌜ Filled (now (work .entry)) (λ i. div binary64 (getD (now (work .entry)) i nan) diagonal) from (length (now (work .entry))) (now (work .exit)) ⌝ }
+    ensures { λ _. ⌜ RowsDivided from diagonal (now (work .entry)) (now (work .exit)) ⌝ }
 {
     let mut i = from;
     while i < work.len() {
@@ -263,12 +349,12 @@ fn divide(work: &mut [f64], from: usize, diagonal: f64)
 }
 
 // The finished column, row i at i, written to the matrix.
-fn store_column(matrix: &mut [f64], work: &[f64], n: usize, j: usize, base: usize)
+fn store_column(matrix: &mut [f64], work: &[f64], n: usize, j: usize)
     requires { ⌜ Column n j (now matrix) ⌝ }
     requires { ⌜ length (now work) ≡ n ⌝ }
-    requires { ⌜ base ≡ packedPlace n 0 j ⌝ }
     ensures { λ _. ⌜ now (matrix .exit) ≡ storeColumn (packedPlace n) j (drop j (now (work .entry))) (now (matrix .entry)) ⌝ }
 {
+    let base = row_start(n, j);
     let mut i = j;
     while i < n {
         matrix[base + i] = work[i];
@@ -293,6 +379,7 @@ fn finish_column(matrix: &mut [f64], work: &mut [f64], n: usize, j: usize) -> Ca
     requires { ⌜ length (now work) ≡ n ⌝ }
     requires { ⌜ Reduced n (now matrix) j j j n (now work) ⌝ }
     ensures { λ r. ⌜ Judged n j (now (matrix .entry)) r (now (matrix .exit)) ⌝ }
+    ensures { λ _. ⌜ Same 0 j (now (work .entry)) (now (work .exit)) ⌝ }
 {
     match binary64::judge(work[j]) {
         Pivot::Refused(value) => CallResult {
@@ -304,22 +391,48 @@ fn finish_column(matrix: &mut [f64], work: &mut [f64], n: usize, j: usize) -> Ca
             if !divide_rows(work, j, diagonal) {
                 return calls::refusal(11, j);
             }
-            let base = row_start(n, j);
-            store_column(matrix, work, n, j, base);
+            store_column(matrix, work, n, j);
             calls::refusal(0, 0)
         }
     }
 }
 
-fn factor_column(matrix: &mut [f64], work: &mut [f64], n: usize, j: usize) -> CallResult
+fn factor_column(
+    matrix: &mut [f64],
+    work: &mut [f64],
+    n: usize,
+    j: usize,
+    top: usize,
+    next: usize,
+) -> CallResult
     requires { ⌜ Column n j (now matrix) ⌝ }
     requires { ⌜ length (now work) ≡ n ⌝ }
+    requires { ⌜ Tops n j top next ⌝ }
+    requires { ⌜ Waiting n (now matrix) j (j - 1) top (now work) ⌝ }
     ensures { λ r. ⌜ Judged n j (now (matrix .entry)) r (now (matrix .exit)) ⌝ }
+    ensures { λ _. ⌜ Waiting n (now (matrix .exit)) (j + 1) j next (now (work .exit)) ⌝ }
 {
-    let base = row_start(n, j);
-    load_column(work, matrix, n, j, base);
-    reduce_column(work, matrix, n, j);
+    form_column(work, matrix, n, j, top, next);
     finish_column(matrix, work, n, j)
+}
+
+// The row from which on column j + 1 is reduced beside column j; n where rows of column j wait themselves. These are whole tiles, below the diagonals
+// of both and no more than fit before the 15 rows above column j that its first tile may reach.
+fn next_top(n: usize, j: usize, top: usize) -> usize
+    requires { ⌜ j < n ⌝ }
+    ensures { λ r. ⌜ Room n (j + 1) r ⌝ }
+    ensures { λ r. ⌜ (top < n → r ≡ n) ⌝ }
+{
+    if top < n || j < 15 {
+        return n;
+    }
+    let below = n - j - 1;
+    let room = j - 15;
+    if below < room {
+        n - below / 16 * 16
+    } else {
+        n - room / 16 * 16
+    }
 }
 
 // The columns in rising order, and none after the first that is refused.
@@ -327,12 +440,15 @@ fn factor_columns(matrix: &mut [f64], work: &mut [f64], n: usize) -> CallResult
     requires { ⌜ (n ≤ maxOrder) × (length (now matrix) ≡ triangle n) × (length (now work) ≡ n) ⌝ }
     ensures { λ r. ⌜ Factored n (now (matrix .entry)) r (now (matrix .exit)) ⌝ }
 {
+    let mut top = n;
     let mut j = 0;
     while j < n {
-        let result = factor_column(matrix, work, n, j);
+        let next = next_top(n, j, top);
+        let result = factor_column(matrix, work, n, j, top, next);
         if !calls::accepted(result) {
             return result;
         }
+        top = next;
         j += 1;
     }
     calls::refusal(0, 0)

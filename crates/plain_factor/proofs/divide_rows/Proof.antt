@@ -37,7 +37,11 @@ same-length : tie.Need-same-length
 same-length c = search needs
 
 returns : tie.Need-returns
-returns c = rw (c .all-finite .ensures) (rows-divided (c .before .before .before .before .before .before .before .before .args .j) (c .before .before .before .before .before .before .before .before .args .diagonal) (c .before .before .before .before .before .before .before .before .args .work .now) (c .before .before .before .before .before .divide .last .0) (c .before .before .before .before .before .before .before .before .pre) (c .before .before .before .before .before .divide .ensures))
+returns c =
+    let a = c .before .before .before .before .before .before .before .before .args in
+    let divide = c .before .before .before .before .before .divide in
+    let pre = c .before .before .before .before .before .before .before .before .pre in
+    rw (c .all-finite .ensures) (rows-divided (a .j) (a .diagonal) (a .work .now) (divide .last .0) pre (divide .ensures))
 
 pub divide-rows-spec : {M : Type 1} → statement M
 divide-rows-spec =

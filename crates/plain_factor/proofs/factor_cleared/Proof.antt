@@ -19,7 +19,11 @@ same-length-2 : tie.Need-same-length-2
 same-length-2 c = search needs
 
 returns : tie.Need-returns
-returns c = (c .before .before .before .before .before .before .before .before .factor-columns .ensures, c .before .before .clear .ensures ∙ ap (λ k. replicate k zero64) (c .before .before .before .before .before .before .before .before .factor-columns .kept .1 .0 ∙ c .before .before .before .before .before .before .before .before .before .before .before .before .before .pre .2))
+returns c =
+    let factor-columns = c .before .before .before .before .before .before .before .before .factor-columns in
+    let clear = c .before .before .clear in
+    let pre = c .before .before .before .before .before .before .before .before .before .before .before .before .before .pre in
+    (factor-columns .ensures, clear .ensures ∙ ap (λ k. replicate k zero64) (factor-columns .kept .1 .0 ∙ pre .2))
 
 pub factor-cleared-spec : {M : Type 1} → statement M
 factor-cleared-spec =

@@ -1,40 +1,75 @@
--- `plain_factor::factor_columns` meets its contract. The loop's invariant: the columns before j are accepted and written. The measure is what is left of the columns. Assumes nothing.
-use Rattle.calls.proofs.Judging.{refused-of, accepted-of}
-use Rattle.plain_factor.proofs.Prefixes.{columns-refused, columns-continued}
-use Prim.Native.Nat.{_-_, _≤_}
+-- `plain_factor::factor_columns` meets its contract. The loop's invariant: the columns before j are written, and rows of column j wait. The measure is what is left of the columns. Assumes nothing.
+use Prim.Native.Nat.{_+_, _-_, _≤_}
 use native.Mathlib.Omega.{arith}
 use borrow.Author.Needs.{needs}
 use mathlib.Core.Path.{_≡_, refl, sym, _∙_}
 use lib.ListN.{length}
 use Rattle.calls.specs.Refusals.{success, lowestRefusal}
-use Rattle.plain_factor.proofs.Prefixes.{prefixOf, ruleOf, prefix-none, verdict-all}
+use Rattle.calls.proofs.Judging.{refused-of, accepted-of}
+use Rattle.plain_factor.specs.Steps.{Room, Waiting}
+use Rattle.plain_factor.proofs.Prefixes.{prefixOf, ruleOf, prefix-none, columns-refused, columns-continued, verdict-all}
 use Rattle.plain_factor.proofs.factor_columns.Statement.{statement}
 use Rattle.plain_factor.proofs.factor_columns.Tie as tie
 
 abbrev Inv-loop : tie.InvT-loop
-Inv-loop matrix₀ work₀ n j₀ matrix work j = (j ≤ n) × (length work ≡ n) × (length matrix ≡ length matrix₀) × (matrix ≡ prefixOf n matrix₀ j) × (lowestRefusal (ruleOf n matrix₀) j ≡ success)
+Inv-loop matrix₀ work₀ n top₀ j₀ matrix work top j =
+    (j ≤ n) × (length work ≡ n) × (length matrix ≡ length matrix₀) × (matrix ≡ prefixOf n matrix₀ j)
+    × (lowestRefusal (ruleOf n matrix₀) j ≡ success) × Room n j top × Waiting n matrix j (j - 1) top work
 
 abbrev μ-loop : tie.MeasureT-loop
-μ-loop matrix₀ work₀ n j₀ matrix work j = n - j
+μ-loop matrix₀ work₀ n top₀ j₀ matrix work top j = n - j
 
 loop-holds : tie.Need-loop-holds Inv-loop μ-loop
 unfolding lowestRefusal
-loop-holds c = (omega arith, c .before .before .pre .2, refl, prefix-none (c .before .before .args .n) (c .before .before .args .matrix .now), refl)
+loop-holds c = (
+  omega arith,
+  c .before .before .pre .2,
+  refl,
+  prefix-none (c .before .before .args .n) (c .before .before .args .matrix .now),
+  refl,
+  record { low = omega arith; high = omega arith; tiles = omega arith; room = omega arith },
+  λ r h. absurd (omega arith),
+)
+
+next-top-requires : tie.Need-next-top-requires Inv-loop μ-loop
+next-top-requires c κs = c .loop-test .taken
 
 factor-column-requires : tie.Need-factor-column-requires Inv-loop μ-loop
-factor-column-requires c κs = (record { order = c .before .before .before .before .before .before .pre .0; column = c .before .before .loop-test .taken; size = c .before .before .before .loop .inv .2 ∙ c .before .before .before .before .before .before .pre .1 }, c .before .before .before .loop .inv .1)
+factor-column-requires c κs =
+    let l = c .before .before .before .before .loop in
+    let pre = c .before .before .before .before .before .before .before .pre in
+    let loop-test = c .before .before .before .loop-test in
+    let next-top = c .before .before .next-top in (
+      record { order = pre .0; column = loop-test .taken; size = l .inv .2 ∙ pre .1 },
+      (l .inv .1, (record { here = l .inv .5; after = next-top .ensures .0; one = next-top .ensures .1 }, l .inv .6)),
+    )
 
 accepted-requires : tie.Need-accepted-requires Inv-loop μ-loop
 accepted-requires c κs = search needs
 
 same-length : tie.Need-same-length Inv-loop μ-loop
-same-length c = c .before .before .before .before .before .before .factor-column .kept .0 ∙ c .before .before .before .before .before .before .before .before .before .before .loop .inv .2
+same-length c =
+    let factor-column = c .before .before .before .before .before .before .factor-column in
+    let l = c .before .before .before .before .before .before .before .before .before .before .before .loop in
+    factor-column .kept .0 ∙ l .inv .2
 
 same-length-2 : tie.Need-same-length-2 Inv-loop μ-loop
-same-length-2 c = c .before .before .before .before .before .before .factor-column .kept .1 .0 ∙ c .before .before .before .before .before .before .before .before .before .before .loop .inv .1 ∙ sym (c .before .before .before .before .before .before .before .before .before .before .before .before .before .pre .2)
+same-length-2 c =
+    let factor-column = c .before .before .before .before .before .before .factor-column in
+    let l = c .before .before .before .before .before .before .before .before .before .before .before .loop in
+    let pre = c .before .before .before .before .before .before .before .before .before .before .before .before .before .before .pre in
+    factor-column .kept .1 .0 ∙ l .inv .1 ∙ sym (pre .2)
 
 returns : tie.Need-returns Inv-loop μ-loop
-returns c = columns-refused (c .before .before .before .before .before .before .before .before .before .before .before .before .before .args .n) (c .before .before .before .before .before .before .before .before .before .before .before .before .before .args .matrix .now) (c .before .before .before .before .before .before .before .before .before .before .before .before .before .pre .1) (c .before .before .before .before .before .before .before .before .before .before .loop .j) (c .before .before .before .before .before .before .before .before .before .loop-test .taken) (c .before .before .before .before .before .before .before .before .before .before .loop .inv .4) (c .before .before .before .before .before .before .before .before .before .before .loop .matrix) (c .before .before .before .before .before .before .factor-column .last .0) (c .before .before .before .before .before .before .factor-column .result) (c .before .before .before .before .before .before .before .before .before .before .loop .inv .3) (c .before .before .before .before .before .before .factor-column .ensures) (refused-of (c .before .accepted .result) (c .before .before .before .before .before .before .factor-column .result) (c .before .accepted .ensures) (c .if1 .taken))
+returns c =
+    let a = c .before .before .before .before .before .before .before .before .before .before .before .before .before .before .args in
+    let l = c .before .before .before .before .before .before .before .before .before .before .before .loop in
+    let column = c .before .before .before .before .before .before .factor-column in
+    let pre = c .before .before .before .before .before .before .before .before .before .before .before .before .before .before .pre in
+    let loop-test = c .before .before .before .before .before .before .before .before .before .before .loop-test in
+    let accepted = c .before .accepted in
+    columns-refused (a .n) (a .matrix .now) (pre .1) (l .j) (loop-test .taken) (l .inv .4) (l .matrix) (column .last .0) (column .result) (l .inv .3)
+    (column .ensures .0) (refused-of (accepted .result) (column .result) (accepted .ensures) (c .if1 .taken))
 
 add-j : tie.Need-add-j Inv-loop μ-loop
 add-j c = omega arith
@@ -44,8 +79,26 @@ loop-less c = omega arith
 
 loop-again : tie.Need-loop-again Inv-loop μ-loop
 loop-again c =
-    let next = columns-continued (c .before .before .before .before .before .before .before .before .before .before .before .before .before .args .n) (c .before .before .before .before .before .before .before .before .before .before .before .before .before .args .matrix .now) (c .before .before .before .before .before .before .before .before .before .before .before .before .before .pre .1) (c .before .before .before .before .before .before .before .before .before .before .loop .j) (c .before .before .before .before .before .before .before .before .before .loop-test .taken) (c .before .before .before .before .before .before .before .before .before .before .loop .inv .4) (c .before .before .before .before .before .before .before .before .before .before .loop .matrix) (c .before .before .before .before .before .before .factor-column .last .0) (c .before .before .before .before .before .before .factor-column .result) (c .before .before .before .before .before .before .before .before .before .before .loop .inv .3) (c .before .before .before .before .before .before .factor-column .ensures) (accepted-of (c .before .accepted .result) (c .before .before .before .before .before .before .factor-column .result) (c .before .accepted .ensures) (c .if1 .left)) in
-    (omega arith, c .before .before .before .before .before .before .factor-column .kept .1 .0 ∙ c .before .before .before .before .before .before .before .before .before .before .loop .inv .1, c .before .before .before .before .before .before .factor-column .kept .0 ∙ c .before .before .before .before .before .before .before .before .before .before .loop .inv .2, next .0, next .1)
+    let a = c .before .before .before .before .before .before .before .before .before .before .before .before .before .before .args in
+    let l = c .before .before .before .before .before .before .before .before .before .before .before .loop in
+    let column = c .before .before .before .before .before .before .factor-column in
+    let pre = c .before .before .before .before .before .before .before .before .before .before .before .before .before .before .pre in
+    let loop-test = c .before .before .before .before .before .before .before .before .before .before .loop-test in
+    let accepted = c .before .accepted in
+    let next-top = c .before .before .before .before .before .before .before .before .before .next-top in
+    let last : l .j + 1 - 1 ≡ l .j = omega arith in
+    let next =
+    columns-continued (a .n) (a .matrix .now) (pre .1) (l .j) (loop-test .taken) (l .inv .4) (l .matrix) (column .last .0) (column .result)
+    (l .inv .3) (column .ensures .0) (accepted-of (accepted .result) (column .result) (accepted .ensures) (c .if1 .left))
+    in (
+      omega arith,
+      column .kept .1 .0 ∙ l .inv .1,
+      column .kept .0 ∙ l .inv .2,
+      next .0,
+      next .1,
+      next-top .ensures .0,
+      rw last (column .ensures .1),
+    )
 
 refusal-requires : tie.Need-refusal-requires Inv-loop μ-loop
 refusal-requires c κs = search needs
@@ -58,8 +111,10 @@ same-length-4 c = c .before .before .loop .inv .1 ∙ sym (c .before .before .be
 
 returns-2 : tie.Need-returns-2 Inv-loop μ-loop
 returns-2 c =
-    let e : c .before .before .loop .j ≡ c .before .before .before .before .before .args .n = omega arith in
-    rw (c .refusal .ensures) (verdict-all (c .before .before .before .before .before .args .n) (c .before .before .before .before .before .args .matrix .now) (c .before .before .loop .matrix) (rw e at (c .before .before .loop .inv .4)) (rw e at (c .before .before .loop .inv .3)))
+    let a = c .before .before .before .before .before .args in
+    let l = c .before .before .loop in
+    let e : l .j ≡ a .n = omega arith in
+    rw (c .refusal .ensures) (verdict-all (a .n) (a .matrix .now) (l .matrix) (rw e at (l .inv .4)) (rw e at (l .inv .3)))
 
 pub factor-columns-spec : {M : Type 1} → statement M
 factor-columns-spec =
@@ -68,6 +123,7 @@ factor-columns-spec =
     Inv-loop
     μ-loop
     loop-holds
+    next-top-requires
     factor-column-requires
     accepted-requires
     same-length

@@ -1,5 +1,5 @@
 -- `plain_factor::finish_column` meets its contract. Assumes nothing.
-use mathlib.Core.Path.{_∙_, sym}
+use mathlib.Core.Path.{refl, sym, _∙_}
 use borrow.Author.Tests.{not-true, not-false}
 use Rattle.plain_factor.proofs.Verdicts.{pivot-refused, rows-refused, column-accepted}
 use borrow.Author.Needs.{needs}
@@ -32,14 +32,16 @@ same-length c = search needs
 
 returns : tie.Need-returns
 returns c =
-    let args = c .before .before .before .before .before .before .before .before .before .before .before .before .before .args in
-    let pre = c .before .before .before .before .before .before .before .before .before .before .before .before .before .pre in
-    let root = sym (c .before .before .before .before .before .before .before .before .before .judge .ensures) ∙ c .before .before .before .before .before .before .before .diagonal .given .1 in
-    rw (c .refusal .ensures)
-    (rows-refused (args .n) (args .j) (args .matrix .now) (args .work .now) (pre .0) (pre .1 .0) (pre .1 .1) (c .before .before .before .before .before .before .before .diagonal .given .0 .0) (c .before .before .before .before .divide-rows .last .0) (c .before .before .before .before .divide-rows .result) root (c .before .before .before .before .divide-rows .kept .0 ∙ pre .1 .0) (c .before .before .before .before .divide-rows .ensures) (not-true _ (c .before .if1 .taken)))
-
-row-start-requires : tie.Need-row-start-requires
-row-start-requires c κs = search needs
+    let pivot = c .before .before .before .before .before .before .before .before .before in
+    let a = pivot .before .before .before .before .args in
+    let pre = pivot .before .before .before .before .pre in
+    let root = c .before .before .before .before .before .before .before .diagonal .given in
+    let divided = c .before .before .before .before .divide-rows in
+    rw (c .refusal .ensures) (
+      rows-refused (a .n) (a .j) (a .matrix .now) (a .work .now) (pre .0) (pre .1 .0) (pre .1 .1) (root .0 .0) (divided .last .0) (divided .result)
+          (sym (pivot .judge .ensures) ∙ root .1) (divided .kept .0 ∙ pre .1 .0) (divided .ensures) (not-true _ (c .before .if1 .taken)),
+      divided .ensures .before,
+    )
 
 store-column-requires : tie.Need-store-column-requires
 store-column-requires c κs = search needs
@@ -49,9 +51,14 @@ refusal-requires-2 c κs = search needs
 
 returns-2 : tie.Need-returns-2
 returns-2 c =
-    let args = c .before .before .before .before .before .before .before .args in
-    let pre = c .before .before .before .before .before .before .before .pre in
-    pivot-refused (args .n) (args .j) (args .matrix .now) (args .work .now) (pre .0) (pre .1 .0) (pre .1 .1) (c .before .value .given .0 .0) (sym (c .before .before .before .judge .ensures) ∙ c .before .value .given .1)
+    let pivot = c .before .before .before in
+    let a = pivot .before .before .before .before .args in
+    let pre = pivot .before .before .before .before .pre in
+    let refused = c .before .value .given in (
+      pivot-refused (a .n) (a .j) (a .matrix .now) (a .work .now) (pre .0) (pre .1 .0) (pre .1 .1) (refused .0 .0)
+          (sym (pivot .judge .ensures) ∙ refused .1),
+      λ p low h. refl,
+    )
 
 same-length-2 : tie.Need-same-length-2
 same-length-2 c = search needs
@@ -61,11 +68,18 @@ same-length-3 c = search needs
 
 returns-3 : tie.Need-returns-3
 returns-3 c =
-    let args = c .before .before .before .before .before .before .before .before .before .before .before .before .before .before .before .before .before .before .before .args in
-    let pre = c .before .before .before .before .before .before .before .before .before .before .before .before .before .before .before .before .before .before .before .pre in
-    let root = sym (c .before .before .before .before .before .before .before .before .before .before .before .before .before .before .before .judge .ensures) ∙ c .before .before .before .before .before .before .before .before .before .before .before .before .before .diagonal .given .1 in
-    rw (c .refusal2 .ensures)
-    (column-accepted (args .n) (args .j) (args .matrix .now) (args .work .now) (pre .0) (pre .1 .0) (pre .1 .1) (c .before .before .before .before .before .before .before .before .before .before .before .before .before .diagonal .given .0 .0) (c .before .before .before .before .before .before .before .before .before .before .divide-rows .last .0) (c .before .before .before .before .before .before .before .before .before .before .divide-rows .result) root (c .before .before .before .before .before .before .before .before .before .before .divide-rows .kept .0 ∙ pre .1 .0) (c .before .before .before .before .before .before .before .before .before .before .divide-rows .ensures) (c .before .before .before .store-column .last .0) (not-false _ (c .before .before .before .before .before .before .before .if1 .left)) (c .before .before .before .store-column .ensures))
+    let stored = c .before .before .before .store-column in
+    let divided = c .before .before .before .before .before .before .before .before .before .divide-rows in
+    let pivot = c .before .before .before .before .before .before .before .before .before .before .before .before .before .before in
+    let a = pivot .before .before .before .before .args in
+    let pre = pivot .before .before .before .before .pre in
+    let root = c .before .before .before .before .before .before .before .before .before .before .before .before .diagonal .given in
+    rw (c .refusal2 .ensures) (
+      column-accepted (a .n) (a .j) (a .matrix .now) (a .work .now) (pre .0) (pre .1 .0) (pre .1 .1) (root .0 .0) (divided .last .0) (divided .result)
+          (sym (pivot .judge .ensures) ∙ root .1) (divided .kept .0 ∙ pre .1 .0) (divided .ensures) (stored .last .0)
+          (not-false _ (c .before .before .before .before .before .before .if1 .left)) (stored .ensures),
+      divided .ensures .before,
+    )
 
 pub finish-column-spec : {M : Type 1} → statement M
 finish-column-spec =
@@ -80,7 +94,6 @@ finish-column-spec =
     refusal-requires
     same-length
     returns
-    row-start-requires
     store-column-requires
     refusal-requires-2
     returns-2

@@ -1,57 +1,88 @@
 -- `plain_factor::load_column` meets its contract. The loop's invariant: the rows before i are read. The measure is what is left of the rows. Assumes nothing.
-use Prim.Native.Nat.{_+_, _-_, _≤_}
+use Prim.Native.Nat.{ℕ, _+_, _-_, _≤_}
+use native.Mathlib.Nat.{sub-self}
 use native.Mathlib.Omega.{arith}
-use mathlib.Core.Path.{refl, sym, ap, _∙_}
+use mathlib.Core.Path.{refl, ap, _∙_}
 use lib.ListN.{getD}
-use lib.Ieee.{nan}
-use Rattle.plain_factor.specs.Steps.{Filled}
-use Rattle.plain_factor.proofs.Fills.{filled-none, filled-more}
+use lib.Ieee.{Float, nan}
+use Rattle.kernels.specs.Kernels.{Filled}
+use Rattle.kernels.proofs.Parts.{filled-none, filled-at, filled-here}
 use Rattle.plain_factor.proofs.Rows.{row-place-le, reduced-none}
+use borrow.Author.Needs.{needs}
 use Rattle.plain_factor.proofs.load_column.Statement.{statement}
 use Rattle.plain_factor.proofs.load_column.Tie as tie
 
 abbrev Inv-loop : tie.InvT-loop
-Inv-loop work₀ matrix n j base i₀ work i = (i ≤ n) × (j ≤ i) × Filled work₀ (λ r. getD matrix (base + r) nan) j i work
+Inv-loop work₀ matrix n j to base i₀ work i = (i ≤ to) × (j ≤ i) × Filled nan j (i - j) (λ r. getD matrix (base + (j + r)) nan) work₀ work
 
 abbrev μ-loop : tie.MeasureT-loop
-μ-loop work₀ matrix n j base i₀ work i = n - i
+μ-loop work₀ matrix n j to base i₀ work i = to - i
+
+row-start-requires : tie.Need-row-start-requires Inv-loop μ-loop
+row-start-requires c κs = search needs
 
 loop-holds : tie.Need-loop-holds Inv-loop μ-loop
-loop-holds c = (omega arith, omega arith, filled-none _ _ _)
+loop-holds c =
+    let a = c .before .before .before .args in
+    (omega arith, omega arith, rw sub-self (filled-none nan (a .j) _ (a .work .now)))
 
 add-work : tie.Need-add-work Inv-loop μ-loop
-add-work c = omega (arith, row-place-le (c .before .before .args .n) (c .before .before .args .j) (c .before .loop .i) (c .before .before .args .j) (c .before .before .args .matrix .now) (c .before .before .pre .0) (omega arith) (omega arith))
+add-work c =
+    let l = c .before .loop in
+    let a = c .before .before .before .before .before .args in
+    let pre = c .before .before .before .before .before .pre in
+    omega (arith, row-place-le (l .i) (a .j) (pre .0) (omega arith) (omega arith))
 
 mul-work : tie.Need-mul-work Inv-loop μ-loop
-mul-work c = omega (arith, row-place-le (c .before .before .args .n) (c .before .before .args .j) (c .before .loop .i) (c .before .before .args .j) (c .before .before .args .matrix .now) (c .before .before .pre .0) (omega arith) (omega arith))
+mul-work c =
+    let l = c .before .loop in
+    let a = c .before .before .before .before .before .args in
+    let pre = c .before .before .before .before .before .pre in
+    omega (arith, row-place-le (l .i) (a .j) (pre .0) (omega arith) (omega arith))
 
 shared-slice-read-work : tie.Need-shared-slice-read-work Inv-loop μ-loop
-shared-slice-read-work c = omega (arith, row-place-le (c .before .before .before .args .n) (c .before .before .before .args .j) (c .before .before .loop .i) (c .before .before .before .args .j) (c .before .before .before .args .matrix .now) (c .before .before .before .pre .0) (omega arith) (omega arith))
+shared-slice-read-work c =
+    let l = c .before .before .loop in
+    let a = c .before .before .before .before .before .before .args in
+    let pre = c .before .before .before .before .before .before .pre in
+    omega (arith, row-place-le (l .i) (a .j) (pre .0) (omega arith) (omega arith))
 
 mul-work-2 : tie.Need-mul-work-2 Inv-loop μ-loop
-mul-work-2 c = omega (arith, c .before .before .before .pre .0 .order)
+mul-work-2 c = omega (arith, c .before .before .before .before .before .before .pre .0 .order)
 
 slice-write-work : tie.Need-slice-write-work Inv-loop μ-loop
-slice-write-work c = omega arith
+slice-write-work c = omega (arith, c .before .before .loop .inv .2 .size)
 
 add-i : tie.Need-add-i Inv-loop μ-loop
-add-i c = omega (arith, c .before .before .before .pre .0 .order)
+add-i c = omega (arith, c .before .before .before .before .before .before .pre .0 .order)
 
 loop-less : tie.Need-loop-less Inv-loop μ-loop
 loop-less c = omega arith
 
 loop-again : tie.Need-loop-again Inv-loop μ-loop
-loop-again c = (omega arith, omega arith, filled-more _ _ (c .before .before .before .args .j) (c .before .before .loop .i) (c .before .before .loop .i + 1) _ (c .before .before .loop .inv .2) (omega arith) (omega arith) refl refl)
+loop-again c =
+    let a = c .before .before .before .before .before .before .args in
+    let l = c .before .before .loop in (
+      omega arith,
+      omega arith,
+      filled-at nan (a .j) (l .i) (λ p. getD (a .matrix .now) (c .before .before .before .row-start .result + p) nan) (a .work .now) (l .work) _
+          (omega arith) (omega arith) (l .inv .2) refl,
+    )
 
 same-length : tie.Need-same-length Inv-loop μ-loop
 same-length c = c .before .loop .inv .2 .size
 
 returns : tie.Need-returns Inv-loop μ-loop
 returns c =
-    λ i low h.
-    c .before .loop .inv .2 .done i low (omega arith)
-    ∙ ap (λ b. getD (c .before .before .args .matrix .now) (b + i) nan) (c .before .before .pre .1 .1)
-    ∙ sym (reduced-none (c .before .before .args .n) (c .before .before .args .matrix .now) (c .before .before .args .j) i)
+    let a = c .before .before .before .before .before .args in
+    let l = c .before .loop in
+    let value : ℕ → Float = λ p. getD (a .matrix .now) (c .before .before .row-start .result + p) nan in (
+      λ i low h.
+          filled-here nan value (l .inv .2) i low (omega arith)
+          ∙ ap (λ b. getD (a .matrix .now) (b + i) nan) (c .before .before .row-start .ensures)
+          ∙ reduced-none (a .n) (a .matrix .now) (a .j) i,
+      λ p low h. l .inv .2 .after p (omega arith),
+    )
 
 pub load-column-spec : {M : Type 1} → statement M
 load-column-spec =
@@ -59,6 +90,7 @@ load-column-spec =
     (tie.spec
     Inv-loop
     μ-loop
+    row-start-requires
     loop-holds
     add-work
     mul-work

@@ -1,37 +1,62 @@
--- `plain_factor::reduce_tile` meets its contract. The loop's invariant: the tile is reduced by the first c columns. The measure is what is left of the group. Assumes nothing.
-use Rattle.plain_factor.specs.Steps.{reduced}
+-- `plain_factor::reduce_tile` meets its contract. The loop's invariant: the rows are less their products in c columns. The measure is what is left of the group. Assumes nothing.
 use Prim.Native.Nat.{_+_, _-_, _≤_}
+use native.Mathlib.Nat.{add-zero}
 use native.Mathlib.Omega.{arith}
 use mathlib.Core.Path.{_≡_, ap, _∙_}
+use lib.ListN.{getD}
+use lib.Ieee.{nan}
 use Rattle.shape.specs.Places.{packedPlace}
-use Rattle.plain_factor.specs.Steps.{ReducedTile}
-use Rattle.plain_factor.proofs.Rows.{row-place-next, row-place-le, reduced-tile-next}
+use Rattle.plain_factor.specs.Steps.{lessProducts, TileReduced}
+use Rattle.plain_factor.proofs.Rows.{row-place-le, start-next, less-none, tile-next}
 use Rattle.plain_factor.proofs.reduce_tile.Statement.{statement}
 use Rattle.plain_factor.proofs.reduce_tile.Tie as tie
 
 abbrev Inv-loop : tie.InvT-loop
-Inv-loop matrix n j k end base i reduced₀ start₀ c₀ reduced start c = (c ≤ end) × (start ≡ packedPlace n 0 c) × ReducedTile n matrix j c i reduced
+Inv-loop matrix n j k count base i reduced₀ start₀ c₀ reduced start c =
+    (c ≤ count) × (start ≡ packedPlace n 0 (k + c)) × TileReduced n matrix j k c i reduced₀ reduced
 
 abbrev μ-loop : tie.MeasureT-loop
-μ-loop matrix n j k end base i reduced₀ start₀ c₀ reduced start c = end - c
+μ-loop matrix n j k count base i reduced₀ start₀ c₀ reduced start c = count - c
 
 loop-holds : tie.Need-loop-holds Inv-loop μ-loop
-loop-holds c = (omega arith, c .before .pre .1 .0 .start, c .before .pre .1 .1 .1)
+loop-holds c =
+    let a = c .before .args in
+    (omega arith, rw add-zero (c .before .pre .1 .0 .start), λ r h. less-none (a .n) (a .matrix .now) (a .j) (a .k) (a .i + r) (getD (a .tile) r nan))
 
-add-subtract-products : tie.Need-add-subtract-products Inv-loop μ-loop
-add-subtract-products c = omega (arith, row-place-le (c .before .before .before .args .n) (c .before .before .before .args .j) (c .before .before .before .args .j) (c .before .loop .c) (c .before .before .before .args .matrix .now) (c .before .before .before .pre .0) (omega arith) (omega arith))
+add-step16 : tie.Need-add-step16 Inv-loop μ-loop
+add-step16 c =
+    let a = c .before .before .before .args in
+    let l = c .before .loop in
+    let pre = c .before .before .before .pre in
+    omega (arith, row-place-le (a .i) (a .k + l .c) (pre .0) (omega arith) (omega arith))
 
-mul-subtract-products : tie.Need-mul-subtract-products Inv-loop μ-loop
-mul-subtract-products c = omega (arith, row-place-le (c .before .before .before .args .n) (c .before .before .before .args .j) (c .before .before .before .args .j) (c .before .loop .c) (c .before .before .before .args .matrix .now) (c .before .before .before .pre .0) (omega arith) (omega arith))
+add-step16-2 : tie.Need-add-step16-2 Inv-loop μ-loop
+add-step16-2 c =
+    let a = c .before .before .before .args in
+    let l = c .before .loop in
+    let pre = c .before .before .before .pre in
+    omega (arith, row-place-le (a .j) (a .k + l .c) (pre .0) (omega arith) (omega arith))
 
-shared-slice-read-subtract-products : tie.Need-shared-slice-read-subtract-products Inv-loop μ-loop
-shared-slice-read-subtract-products c = omega (arith, row-place-le (c .before .before .before .before .args .n) (c .before .before .before .before .args .j) (c .before .before .before .before .args .j) (c .before .before .loop .c) (c .before .before .before .before .args .matrix .now) (c .before .before .before .before .pre .0) (omega arith) (omega arith))
+mul-step16 : tie.Need-mul-step16 Inv-loop μ-loop
+mul-step16 c =
+    let a = c .before .before .before .args in
+    let l = c .before .loop in
+    let pre = c .before .before .before .pre in
+    omega (arith, row-place-le (a .j) (a .k + l .c) (pre .0) (omega arith) (omega arith))
 
-add-subtract-products-2 : tie.Need-add-subtract-products-2 Inv-loop μ-loop
-add-subtract-products-2 c = omega (arith, row-place-le (c .before .before .before .before .args .n) (c .before .before .before .before .args .j) (c .before .before .before .before .args .i) (c .before .before .loop .c) (c .before .before .before .before .args .matrix .now) (c .before .before .before .before .pre .0) (omega arith) (omega arith))
+shared-slice-read-step16 : tie.Need-shared-slice-read-step16 Inv-loop μ-loop
+shared-slice-read-step16 c =
+    let a = c .before .before .before .before .args in
+    let l = c .before .before .loop in
+    let pre = c .before .before .before .before .pre in
+    omega (arith, row-place-le (a .j) (a .k + l .c) (pre .0) (omega arith) (omega arith))
 
-subtract-products-requires : tie.Need-subtract-products-requires Inv-loop μ-loop
-subtract-products-requires c κs = omega (arith, row-place-le (c .before .before .before .before .args .n) (c .before .before .before .before .args .j) (c .before .before .before .before .args .i + 15) (c .before .before .loop .c) (c .before .before .before .before .args .matrix .now) (c .before .before .before .before .pre .0) (omega arith) (omega arith))
+step16-requires : tie.Need-step16-requires Inv-loop μ-loop
+step16-requires c κs =
+    let a = c .before .before .before .before .args in
+    let l = c .before .before .loop in
+    let pre = c .before .before .before .before .pre in
+    omega (arith, row-place-le (a .i + 15) (a .k + l .c) (pre .0) (omega arith) (omega arith))
 
 sub-start : tie.Need-sub-start Inv-loop μ-loop
 sub-start c = omega arith
@@ -39,8 +64,18 @@ sub-start c = omega arith
 sub-start-2 : tie.Need-sub-start-2 Inv-loop μ-loop
 sub-start-2 c = omega arith
 
+sub-start-3 : tie.Need-sub-start-3 Inv-loop μ-loop
+sub-start-3 c = omega arith
+
 add-start : tie.Need-add-start Inv-loop μ-loop
-add-start c = omega (arith, row-place-next (c .before .before .before .before .before .args .n) (c .before .before .before .loop .c) (omega arith), row-place-le (c .before .before .before .before .before .args .n) (c .before .before .before .before .before .args .j) 0 (c .before .before .before .loop .c + 1) (c .before .before .before .before .before .args .matrix .now) (c .before .before .before .before .before .pre .0) (omega arith) (omega arith))
+add-start c =
+    let a = c .before .before .before .before .before .args in
+    let l = c .before .before .before .loop in
+    omega (
+      arith,
+      start-next (a .n) (a .k) (l .c) (l .start) (omega arith) (l .inv .1),
+      row-place-le 0 (a .k + (l .c + 1)) (c .before .before .before .before .before .pre .0) (omega arith) (omega arith),
+    )
 
 add-c : tie.Need-add-c Inv-loop μ-loop
 add-c c = omega arith
@@ -49,13 +84,21 @@ loop-less : tie.Need-loop-less Inv-loop μ-loop
 loop-less c = omega arith
 
 loop-again : tie.Need-loop-again Inv-loop μ-loop
-loop-again c = (omega arith, omega (arith, row-place-next (c .before .before .before .before .before .args .n) (c .before .before .before .loop .c) (omega arith)), reduced-tile-next (c .before .before .before .before .before .args .n) (c .before .before .before .before .before .args .matrix .now) (c .before .before .before .before .before .args .j) (c .before .before .before .loop .c) (c .before .before .before .before .before .args .i) (c .before .before .before .loop .start) (c .before .before .before .loop .reduced) (c .subtract-products .result) (c .before .before .before .loop .inv .1) (c .before .before .before .loop .inv .2) (c .subtract-products .ensures))
+loop-again c =
+    let a = c .before .before .before .before .before .args in
+    let l = c .before .before .before .loop in (
+      omega arith,
+      start-next (a .n) (a .k) (l .c) (l .start) (omega arith) (l .inv .1),
+      tile-next (a .n) (a .matrix .now) (a .j) (a .k) (l .c) (a .i) (l .start) (a .tile) (l .reduced) (c .step16 .result) (l .inv .1) (l .inv .2)
+          (c .step16 .ensures),
+    )
 
 returns : tie.Need-returns Inv-loop μ-loop
 returns c =
-    λ r h low.
-    let e : c .before .loop .c ≡ c .before .before .before .args .end = omega arith in
-    c .before .loop .inv .2 r h low ∙ ap (λ k. reduced (c .before .before .before .args .n) (c .before .before .before .args .matrix .now) (c .before .before .before .args .j) k (c .before .before .before .args .i + r)) e
+    let a = c .before .before .before .args in
+    let e : c .before .loop .c ≡ a .count = omega arith in
+    λ r h.
+    c .before .loop .inv .2 r h ∙ ap (λ c. lessProducts (a .n) (a .matrix .now) (a .j) (a .k) c (a .i + r) (getD (a .tile) r nan)) e
 
 pub reduce-tile-spec : {M : Type 1} → statement M
 reduce-tile-spec =
@@ -64,13 +107,14 @@ reduce-tile-spec =
     Inv-loop
     μ-loop
     loop-holds
-    add-subtract-products
-    mul-subtract-products
-    shared-slice-read-subtract-products
-    add-subtract-products-2
-    subtract-products-requires
+    add-step16
+    add-step16-2
+    mul-step16
+    shared-slice-read-step16
+    step16-requires
     sub-start
     sub-start-2
+    sub-start-3
     add-start
     add-c
     loop-less
