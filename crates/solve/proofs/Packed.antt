@@ -2,7 +2,7 @@
 use Prim.Native.Nat.{ℕ, _+_, _-_, _≤_, _<_}
 use native.Mathlib.Omega.{arith}
 use mathlib.Core.Path.{_≡_, sym, ap, ap₂, _∙_}
-use mathlib.Core.List.{List, _++_}
+use mathlib.Core.List.{List}
 use lib.ListN.{length, getD, set, take, drop, length-set}
 use lib.Seq.{getD-set-same, getD-set-other}
 use lib.Ieee.{Float, nan, binary64, sub, mul, div}
@@ -12,60 +12,49 @@ use Rattle.shape.proofs.Columns.{block-start-next, packed-place-diagonal, packe
 use Rattle.calls.specs.Arithmetic.{minusProducts}
 use Rattle.calls.specs.Triangles.{height, load}
 use Rattle.kernels.specs.Kernels.{Replaced, MultipleSubtracted, fallingFrom}
-use Rattle.kernels.proofs.Parts.{getD-part, part-replaced, length-part}
+use Rattle.kernels.proofs.Parts.{getD-part}
 use Rattle.kernels.proofs.Products.{minus-none, minus-next, falling-part}
 use Rattle.solve.specs.Substitution.{entriesAt, ForwardDone, ProductsSubtracted, BackwardDone}
 use Rattle.solve.proofs.Factors.{triangle-rest, column-agrees, packed-agrees}
-use Rattle.solve.proofs.Substitution.{ForwardTo, BackwardTo, lent, returned, length-lent, forward-lent, backward-lent}
+use Rattle.solve.proofs.Substitution.{ForwardTo, BackwardTo, lent, returned, length-lent, returned-whole, forward-lent, backward-lent}
 use Rattle.solve.proofs.Triangles.{BackwardRows, backward-next}
 
 -- ---- one column forward
 
-module _ (column v part′ v′ : List Float) (pos : 0 < length v) (same : length column ≡ length v) where
-  abbrev v₁ : List Float → List Float
-  v₁ u = set v 0 (div binary64 (getD u 0 nan) (getD column 0 nan))
+pub column-done :
+    (column v part′ : List Float) (y : Float) → 0 < length v → length column ≡ length v → y ≡ div binary64 (getD v 0 nan) (getD column 0 nan) →
+    MultipleSubtracted (lent 1 (set v 0 y)) (lent 1 column) y part′ →
+    ForwardDone (entriesAt (λ r s. r) column) (length v) 1 v (returned 1 (set v 0 y) part′)
+column-done column v part′ y pos same e subtracted =
+    record {
+      size = whole .size ∙ length-set v 0 y;
+      inside = λ r h.
+          let first : r ≡ 0 = omega arith in
+          rw first (top ∙ e ∙ ap (λ t. div binary64 t (getD column 0 nan)) (sym (minus-none _ _ _)));
+      under = λ r low h.
+          let at : 1 + (r - 1) ≡ r = omega arith in
+          let size : length v₁ ≡ length v = length-set v 0 y in
+          ap (λ q. getD v′ q nan) (sym at) ∙ whole .inside (r - 1) (omega arith)
+          ∙ subtracted .value (r - 1) (omega (arith, length-lent (length v) 1 v₁ size pos))
+          ∙ ap₂ (λ t u. sub binary64 t (mul binary64 u y))
+          (getD-part nan 1 (length v₁ - 1) v₁ (r - 1) (omega arith) ∙ ap (λ q. getD v₁ q nan) at ∙ getD-set-other v 0 r y nan (λ g. omega arith))
+          (getD-part nan 1 (length column - 1) column (r - 1) (omega arith) ∙ ap (λ q. getD column q nan) at)
+          ∙ ap₂ (λ t u. sub binary64 t (mul binary64 (getD column r nan) u))
+          (sym (minus-none (λ k. getD column r nan) (λ k. getD v′ k nan) _)) (sym top)
+          ∙ sym (minus-next (λ k. getD column r nan) (λ k. getD v′ k nan) 0 (getD v r nan));
+    }
+  where
+    v₁ : List Float
+    v₁ = set v 0 y
 
-  pub column-whole :
-      length part′ ≡ length (take (length (v₁ v) - 1) (drop 1 (v₁ v))) →
-      Replaced nan 1 (length (v₁ v) - 1) (v₁ v) part′ (take 1 (v₁ v) ++ (part′ ++ drop (length (v₁ v) - 1) (drop 1 (v₁ v))))
-  column-whole e =
-      let size : length (v₁ v) ≡ length v = length-set v 0 _ in
-      part-replaced nan 1 (length (v₁ v) - 1) (v₁ v) part′ (omega arith) (e ∙ length-part nan 1 (length (v₁ v) - 1) (v₁ v) (omega arith))
+    v′ : List Float
+    v′ = returned 1 v₁ part′
 
-  pub column-size :
-      length part′ ≡ length (take (length (v₁ v) - 1) (drop 1 (v₁ v))) →
-      length (take 1 (v₁ v) ++ (part′ ++ drop (length (v₁ v) - 1) (drop 1 (v₁ v)))) ≡ length v
-  column-size e = column-whole e .size ∙ length-set v 0 _
+    whole : Replaced nan 1 (length v - 1) v₁ part′ v′
+    whole = returned-whole (length v) 1 v₁ part′ (length-set v 0 y) pos (subtracted .size)
 
-  pub column-done :
-      MultipleSubtracted (take (length (v₁ v) - 1) (drop 1 (v₁ v))) (take (length column - 1) (drop 1 column))
-      (div binary64 (getD v 0 nan) (getD column 0 nan)) part′ →
-      Replaced nan 1 (length (v₁ v) - 1) (v₁ v) part′ v′ → ForwardDone (entriesAt (λ r s. r) column) (length v) 1 v v′
-  column-done subtracted whole =
-      record {
-        size = whole .size ∙ length-set v 0 _;
-        inside = λ r h.
-            let first : r ≡ 0 = omega arith in
-            rw first (top ∙ ap (λ t. div binary64 t (getD column 0 nan)) (sym (minus-none _ _ _)));
-        under = λ r low h.
-            let at : 1 + (r - 1) ≡ r = omega arith in
-            let size : length (v₁ v) ≡ length v = length-set v 0 _ in
-            let inside : r - 1 < length (v₁ v) - 1 = omega arith in
-            let there : r - 1 < length (take (length (v₁ v) - 1) (drop 1 (v₁ v))) =
-            omega (arith, length-part nan 1 (length (v₁ v) - 1) (v₁ v) (omega arith)) in
-            ap (λ q. getD v′ q nan) (sym at) ∙ whole .inside (r - 1) inside ∙ subtracted .value (r - 1) there
-            ∙ ap₂ (λ t u. sub binary64 t (mul binary64 u (div binary64 (getD v 0 nan) (getD column 0 nan))))
-            (getD-part nan 1 (length (v₁ v) - 1) (v₁ v) (r - 1) inside ∙ ap (λ q. getD (v₁ v) q nan) at
-            ∙ getD-set-other v 0 r _ nan (λ g. omega arith))
-            (getD-part nan 1 (length column - 1) column (r - 1) (omega arith) ∙ ap (λ q. getD column q nan) at)
-            ∙ ap (λ u. sub binary64 (getD v r nan) (mul binary64 (getD column r nan) u)) (sym top)
-            ∙ ap (λ t. sub binary64 t (mul binary64 (getD column r nan) (getD v′ 0 nan)))
-            (sym (minus-none (λ k. getD column r nan) (λ k. getD v′ k nan) _))
-            ∙ sym (minus-next (λ k. getD column r nan) (λ k. getD v′ k nan) 0 (getD v r nan));
-      }
-    where
-      top : getD v′ 0 nan ≡ div binary64 (getD v 0 nan) (getD column 0 nan)
-      top = whole .before 0 (omega arith) ∙ getD-set-same v 0 _ nan pos
+    top : getD v′ 0 nan ≡ y
+    top = whole .before 0 (omega arith) ∙ getD-set-same v 0 y nan pos
 
 -- ---- one row of the triangle backward
 

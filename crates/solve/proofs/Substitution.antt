@@ -248,10 +248,15 @@ length-lent n c work e le =
     let rows : length work - c ≡ n - c = omega arith in
     length-part nan c (length work - c) work (omega arith) ∙ rows
 
+pub returned-whole :
+    (n c : ℕ) (work v′ : List Float) → length work ≡ n → c ≤ n → length v′ ≡ length (lent c work) →
+    Replaced nan c (n - c) work v′ (returned c work v′)
+returned-whole n c work v′ e le size =
+    rw (sym e) (part-replaced nan c (length work - c) work v′ (omega arith) (size ∙ length-part nan c (length work - c) work (omega arith)))
+
 pub length-returned :
     (n c : ℕ) (work v′ : List Float) → length work ≡ n → c ≤ n → length v′ ≡ length (lent c work) → length (returned c work v′) ≡ n
-length-returned n c work v′ e le size =
-    part-replaced nan c (length work - c) work v′ (omega arith) (size ∙ length-part nan c (length work - c) work (omega arith)) .size ∙ e
+length-returned n c work v′ e le size = returned-whole n c work v′ e le size .size ∙ e
 
 module _
     (n c w : ℕ) (l : Triangle) (y work v′ : List Float) (coefficient : ℕ → ℕ → Float)
@@ -259,23 +264,12 @@ module _
   same-part : length work ≡ n → (r : ℕ) → c + r < n → getD (lent c work) r nan ≡ getD work (c + r) nan
   same-part e r h = getD-part nan c (length work - c) work r (omega arith)
 
-  whole : length work ≡ n → length v′ ≡ length (lent c work) → Replaced nan c (n - c) work v′ (returned c work v′)
-  whole e size =
-      let so : Replaced nan c (length work - c) work v′ (returned c work v′) =
-      part-replaced nan c (length work - c) work v′ (omega arith) (size ∙ length-part nan c (length work - c) work (omega arith)) in
-      record {
-        size = so .size;
-        before = so .before;
-        inside = λ r h. so .inside r (omega arith);
-        after = λ i h. so .after i (omega arith);
-      }
-
   pub forward-lent : ForwardTo n l y c work → ForwardDone coefficient (n - c) w (lent c work) v′ → ForwardTo n l y (c + w) (returned c work v′)
   forward-lent state done =
       forward-further n c w l y work (lent c work) v′ (returned c work v′) coefficient fits agrees (same-part (state .size)) state done
-      (whole (state .size) (done .size))
+      (returned-whole n c work v′ (state .size) (omega arith) (done .size))
 
   pub backward-lent : BackwardTo n l y (c + w) work → BackwardDone coefficient (n - c) w (lent c work) v′ → BackwardTo n l y c (returned c work v′)
   backward-lent state done =
       backward-further n c w l y work (lent c work) v′ (returned c work v′) coefficient fits agrees (same-part (state .size)) state done
-      (whole (state .size) (done .size))
+      (returned-whole n c work v′ (state .size) (omega arith) (done .size))

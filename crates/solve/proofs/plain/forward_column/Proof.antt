@@ -1,10 +1,11 @@
 -- `solve::plain::forward_column` meets its contract: the first row is finished, and its products are subtracted from the others. Assumes nothing.
 use native.Mathlib.Omega.{arith}
-use mathlib.Core.List.{[]}
+use mathlib.Core.Path.{refl}
 use borrow.Author.Needs.{needs}
 use denote.Ref.{now}
-use lib.ListN.{length-take, length-drop, length-set}
-use Rattle.solve.proofs.Packed.{column-whole, column-size, column-done}
+use lib.ListN.{length, set, length-take, length-drop, length-set}
+use Rattle.solve.proofs.Substitution.{length-returned}
+use Rattle.solve.proofs.Packed.{column-done}
 use Rattle.solve.proofs.plain.forward_column.Statement.{statement}
 use Rattle.solve.proofs.plain.forward_column.Tie as tie
 
@@ -40,18 +41,16 @@ subtract-multiple-requires c κs = simp (length-take, length-drop, length-set) (
 
 same-length : tie.Need-same-length
 same-length c =
-    let a = c .before .before .before .before .before .before .before .before .before .args in
-    let p = c .before .before .before .before .before .before .before .before .before .pre in
+    let v = now (c .before .before .before .before .before .before .before .before .before .args .work) in
     let subtract-multiple = c .before .before .subtract-multiple in
-    column-size (now (a .column)) (now (a .work)) (subtract-multiple .last .0) [] (p .0) (p .1) (subtract-multiple .kept .0)
+    length-returned (length v) 1 (set v 0 _) (subtract-multiple .last .0) (length-set v 0 _) (omega arith) (subtract-multiple .kept .0)
 
 returns : tie.Need-returns
 returns c =
     let a = c .before .before .before .before .before .before .before .before .before .args in
     let p = c .before .before .before .before .before .before .before .before .before .pre in
     let subtract-multiple = c .before .before .subtract-multiple in
-    column-done (now (a .column)) (now (a .work)) (subtract-multiple .last .0) _ (p .0) (p .1) (subtract-multiple .ensures)
-    (column-whole (now (a .column)) (now (a .work)) (subtract-multiple .last .0) [] (p .0) (p .1) (subtract-multiple .kept .0))
+    column-done (now (a .column)) (now (a .work)) (subtract-multiple .last .0) _ (p .0) (p .1) refl (subtract-multiple .ensures)
 
 pub forward-column-spec : {M : Type 1} → statement M
 forward-column-spec =
