@@ -10,7 +10,7 @@ use lib.Ieee.{Float, nan, binary64, sub, mul}
 use Rattle.calls.specs.Arithmetic.{minusProducts}
 use Rattle.calls.proofs.Columns.{products-same}
 use Rattle.kernels.specs.Kernels.{Filled}
-use Rattle.kernels.proofs.Products.{minus-none, minus-next}
+use Rattle.kernels.proofs.Products.{minus-none, minus-next, minus-add}
 use Rattle.solve.specs.Substitution.{RowsReplaced, RowsSubtracted, RowTaken, ColumnsSubtracted}
 
 -- ---- any rows
@@ -108,3 +108,24 @@ module _ (coefficient : ℕ → ℕ → Float) where
         before = λ r p. row .before r p ∙ s .before r p;
         after = λ r p. row .after r p ∙ s .after r p;
       }
+
+  -- the next rows up
+  pub columns-add :
+      (h k count from to : ℕ) (v u v′ : List Float) → to + (k + count) ≤ h → ColumnsSubtracted coefficient h k from to v u →
+      ColumnsSubtracted coefficient (h - k) count from to u v′ → ColumnsSubtracted coefficient h (k + count) from to v v′
+  columns-add h k count from to v u v′ under one two =
+      record {
+        size = two .size ∙ one .size;
+        inside = λ r p q.
+            two .inside r p q
+            ∙ products-same (λ i. coefficient (h - k - 1 - i) r) (λ i. coefficient (h - 1 - (k + i)) r)
+            (λ i. getD u (h - k - 1 - i) nan) (λ i. getD v (h - 1 - (k + i)) nan) count (getD u r nan)
+            (λ i few. ap (λ z. coefficient z r) (up i)) (λ i few. one .after (h - k - 1 - i) (omega arith) ∙ ap (λ z. getD v z nan) (up i))
+            ∙ ap (minusProducts (λ i. coefficient (h - 1 - (k + i)) r) (λ i. getD v (h - 1 - (k + i)) nan) count) (one .inside r p q)
+            ∙ sym (minus-add (λ i. coefficient (h - 1 - i) r) (λ i. getD v (h - 1 - i) nan) k count (getD v r nan));
+        before = λ r p. two .before r p ∙ one .before r p;
+        after = λ r p. two .after r p ∙ one .after r p;
+      }
+    where
+      up : (i : ℕ) → h - k - 1 - i ≡ h - 1 - (k + i)
+      up i = omega arith

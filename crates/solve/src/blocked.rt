@@ -18,6 +18,9 @@ use kernels::subtract_rising;
 use kernels::subtract_rising8;
 use shape::Shape;
 
+// Rows of a tile: of 64 columns it has 32 KB.
+const TILE: usize = 64;
+
 // The first w rows are finished.
 fn forward_triangle(h: usize, w: usize, part: &[f64], work: &mut [f64])
     requires { ⌜ BlockColumn h w (now part) (now work) ⌝ }
@@ -116,19 +119,27 @@ pub fn forward(shape: Shape, matrix: &[f64], work: &mut [f64])
     }
 }
 
-// The products of the rows below the first w are subtracted, from the last row up, from rows s to s + 15 of these.
-fn backward_columns16(h: usize, w: usize, s: usize, part: &[f64], work: &mut [f64])
+// The products of the rows from `first` on and before `end`, below the first w, are subtracted, from the last row up, from rows s to s + 15 of these.
+fn backward_columns16(
+    h: usize,
+    w: usize,
+    s: usize,
+    first: usize,
+    end: usize,
+    part: &[f64],
+    work: &mut [f64],
+)
     requires { ⌜ BlockColumn h w (now part) (now work) ⌝ }
-    requires { ⌜ s + 16 ≤ w ⌝ }
-    ensures { λ _. ⌜ ColumnsSubtracted (entriesAt (placeInBlock w) (now (part .entry))) h (h - w) s (s + 16) (now (work .entry)) (now (work .exit)) ⌝ }
+    requires { ⌜ (s + 16 ≤ w) × (w ≤ first) × (first ≤ end) × (end ≤ h) ⌝ }
+    ensures { λ _. ⌜ ColumnsSubtracted (entriesAt (placeInBlock w) (now (part .entry))) end (end - first) s (s + 16) (now (work .entry)) (now (work .exit)) ⌝ }
 {
-    let rows = h - w;
+    let rows = end - first;
     let mut values = load16(work, s);
-    let mut at = Shape::place_in_block(w, h, s);
+    let mut at = Shape::place_in_block(w, end, s);
     let mut k = 0;
     while k < rows {
         at -= w;
-        let next = step16(values, part, at, work[h - 1 - k]);
+        let next = step16(values, part, at, work[end - 1 - k]);
         values = next;
         k += 1;
     }
@@ -149,32 +160,62 @@ fn backward_row(h: usize, w: usize, from: usize, r: usize, part: &[f64], work: &
     subtract_multiple(&mut work[from..w], &part[at..end], x);
 }
 
-// So are those of all rows below, from the last row up.
-fn backward_last_columns(h: usize, w: usize, from: usize, part: &[f64], work: &mut [f64])
+// So are those of the rows from `first` on and before `end`, from the last row up.
+fn backward_last_columns(
+    h: usize,
+    w: usize,
+    from: usize,
+    first: usize,
+    end: usize,
+    part: &[f64],
+    work: &mut [f64],
+)
     requires { ⌜ BlockColumn h w (now part) (now work) ⌝ }
-    requires { ⌜ from ≤ w ⌝ }
-    ensures { λ _. ⌜ ColumnsSubtracted (entriesAt (placeInBlock w) (now (part .entry))) h (h - w) from w (now (work .entry)) (now (work .exit)) ⌝ }
+    requires { ⌜ (from ≤ w) × (w ≤ first) × (first ≤ end) × (end ≤ h) ⌝ }
+    ensures { λ _. ⌜ ColumnsSubtracted (entriesAt (placeInBlock w) (now (part .entry))) end (end - first) from w (now (work .entry)) (now (work .exit)) ⌝ }
 {
-    let rows = h - w;
+    let rows = end - first;
     let mut k = 0;
     while k < rows {
-        backward_row(h, w, from, h - 1 - k, part, work);
+        backward_row(h, w, from, end - 1 - k, part, work);
         k += 1;
     }
 }
 
 // They are subtracted from all of the first w: sixteen at a time, and then the rows that sixteens leave.
+fn backward_tile(h: usize, w: usize, first: usize, end: usize, part: &[f64], work: &mut [f64])
+    requires { ⌜ BlockColumn h w (now part) (now work) ⌝ }
+    requires { ⌜ (w ≤ first) × (first ≤ end) × (end ≤ h) ⌝ }
+    ensures { λ _. ⌜ ColumnsSubtracted (entriesAt (placeInBlock w) (now (part .entry))) end (end - first) 0 w (now (work .entry)) (now (work .exit)) ⌝ }
+{
+    let mut s = 0;
+    while s + 16 <= w {
+        backward_columns16(h, w, s, first, end, part, work);
+        s += 16;
+    }
+    if s < w {
+        backward_last_columns(h, w, s, first, end, part, work);
+    }
+}
+
+// The first row of the tile that ends before row `end`.
+fn tile_start(w: usize, end: usize) -> usize
+    requires { ⌜ w < end ⌝ }
+    ensures { λ r. ⌜ (w ≤ r) × (r < end) ⌝ }
+{
+    if end - w < TILE { w } else { end - TILE }
+}
+
+// The products of all rows below the first w, a tile of them after another from the last up, so that a tile is still in the cache for its next columns.
 fn backward_rows(h: usize, w: usize, part: &[f64], work: &mut [f64])
     requires { ⌜ BlockColumn h w (now part) (now work) ⌝ }
     ensures { λ _. ⌜ ProductsSubtracted (entriesAt (placeInBlock w) (now (part .entry))) h w (now (work .entry)) (now (work .exit)) ⌝ }
 {
-    let mut s = 0;
-    while s + 16 <= w {
-        backward_columns16(h, w, s, part, work);
-        s += 16;
-    }
-    if s < w {
-        backward_last_columns(h, w, s, part, work);
+    let mut end = h;
+    while w < end {
+        let first = tile_start(w, end);
+        backward_tile(h, w, first, end, part, work);
+        end = first;
     }
 }
 

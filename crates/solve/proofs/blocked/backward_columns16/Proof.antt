@@ -1,5 +1,5 @@
--- `solve::blocked::backward_columns16` meets its contract. The invariant of its loop: the products of the last k rows are subtracted, and row h − k
--- has its entry in column s at `at`. Assumes nothing.
+-- `solve::blocked::backward_columns16` meets its contract. The invariant of its loop: the products of the last k rows are subtracted, and row
+-- end − k has its entry in column s at `at`. Assumes nothing.
 use Prim.Native.Nat.{_+_, _-_, _≤_}
 use native.Mathlib.Omega.{arith}
 use mathlib.Core.Path.{_≡_, sym, ap, _∙_}
@@ -12,10 +12,10 @@ use Rattle.solve.proofs.blocked.backward_columns16.Statement.{statement
 use Rattle.solve.proofs.blocked.backward_columns16.Tie as tie
 
 abbrev Inv-loop : tie.InvT-loop
-Inv-loop h w s part work rows values₀ at₀ k₀ values at k = (k ≤ rows) × (at ≡ placeInBlock w (h - k) s) × Less16 h w k s part work values
+Inv-loop h w s first end part work rows values₀ at₀ k₀ values at k = (k ≤ rows) × (at ≡ placeInBlock w (end - k) s) × Less16 end w k s part work values
 
 abbrev μ-loop : tie.MeasureT-loop
-μ-loop h w s part work rows values₀ at₀ k₀ values at k = rows - k
+μ-loop h w s first end part work rows values₀ at₀ k₀ values at k = rows - k
 
 sub-rows : tie.Need-sub-rows Inv-loop μ-loop
 sub-rows c = omega arith
@@ -28,14 +28,14 @@ place-in-block-requires c κs = (omega arith, omega arith)
 
 loop-holds : tie.Need-loop-holds Inv-loop μ-loop
 loop-holds c =
-    let none : c .before .before .before .before .before .args .h - 0 ≡ c .before .before .before .before .before .args .h = omega arith in
+    let none : c .before .before .before .before .before .args .end - 0 ≡ c .before .before .before .before .before .args .end = omega arith in
     (omega arith, rw none (c .place-in-block .ensures), λ i p. c .before .load16 .ensures i p ∙ sym (minus-none _ _ _))
 
 sub-at : tie.Need-sub-at Inv-loop μ-loop
 sub-at c =
     let a = c .before .before .before .before .before .before .before .args in
     let l = c .before .loop in
-    omega (arith, next-up (a .h) (a .w) (l .k) (a .s) (l .at) (omega arith) (l .inv .1))
+    omega (arith, next-up (a .end) (a .w) (l .k) (a .s) (l .at) (omega arith) (l .inv .1))
 
 sub-step16 : tie.Need-sub-step16 Inv-loop μ-loop
 sub-step16 c = omega arith
@@ -53,10 +53,10 @@ step16-requires : tie.Need-step16-requires Inv-loop μ-loop
 step16-requires c κs =
     let a = c .before .before .before .before .before .before .before .before .args in
     let l = c .before .before .loop in
-    let r = a .h - 1 - l .k in
+    let r = a .end - 1 - l .k in
     omega (
       arith,
-      next-up (a .h) (a .w) (l .k) (a .s) (l .at) (omega arith) (l .inv .1),
+      next-up (a .end) (a .w) (l .k) (a .s) (l .at) (omega arith) (l .inv .1),
       room-part (a .h) (a .w) r (a .s) 16 (omega arith) (omega arith) (omega arith) (omega arith) (omega arith),
     )
 
@@ -70,11 +70,11 @@ loop-again : tie.Need-loop-again Inv-loop μ-loop
 loop-again c =
     let a = c .before .before .before .before .before .before .before .before .before .args in
     let l = c .before .before .before .loop in
-    let place = next-up (a .h) (a .w) (l .k) (a .s) (l .at) (omega arith) (l .inv .1) .1 in
-    let up : a .h - 1 - l .k ≡ a .h - (l .k + 1) = omega arith in (
+    let place = next-up (a .end) (a .w) (l .k) (a .s) (l .at) (omega arith) (l .inv .1) .1 in
+    let up : a .end - 1 - l .k ≡ a .end - (l .k + 1) = omega arith in (
       omega arith,
       place ∙ ap (λ r. placeInBlock (a .w) r (a .s)) up,
-      less16-next (a .h) (a .w) (l .k) (a .s) (now (a .part)) (now (a .work)) (l .values) (l .inv .2) (l .at - a .w) (c .step16 .result) place
+      less16-next (a .end) (a .w) (l .k) (a .s) (now (a .part)) (now (a .work)) (l .values) (l .inv .2) (l .at - a .w) (c .step16 .result) place
           (c .step16 .ensures),
     )
 
@@ -88,8 +88,8 @@ returns : tie.Need-returns Inv-loop μ-loop
 returns c =
     let a = c .before .before .before .before .before .before .before .before .before .before .before .args in
     let l = c .before .before .before .before .before .loop in
-    let all : l .k ≡ a .h - a .w = omega arith in
-    columns16-done (a .h) (a .w) (a .h - a .w) (a .s) (now (a .part)) (now (a .work)) (l .values) (rw all at (l .inv .2)) _
+    let all : l .k ≡ a .end - a .first = omega arith in
+    columns16-done (a .end) (a .w) (a .end - a .first) (a .s) (now (a .part)) (now (a .work)) (l .values) (rw all at (l .inv .2)) _
     (c .before .before .store16 .ensures)
 
 pub backward-columns16-spec : {M : Type 1} → statement M

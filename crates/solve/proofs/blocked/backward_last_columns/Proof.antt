@@ -11,10 +11,10 @@ use Rattle.solve.proofs.blocked.backward_last_columns.Statement.{statem
 use Rattle.solve.proofs.blocked.backward_last_columns.Tie as tie
 
 abbrev Inv-loop : tie.InvT-loop
-Inv-loop h w from part work₀ rows k₀ work k = (k ≤ rows) × ColumnsSubtracted (entriesAt (placeInBlock w) part) h k from w work₀ work
+Inv-loop h w from first end part work₀ rows k₀ work k = (k ≤ rows) × ColumnsSubtracted (entriesAt (placeInBlock w) part) end k from w work₀ work
 
 abbrev μ-loop : tie.MeasureT-loop
-μ-loop h w from part work₀ rows k₀ work k = rows - k
+μ-loop h w from first end part work₀ rows k₀ work k = rows - k
 
 sub-rows : tie.Need-sub-rows Inv-loop μ-loop
 sub-rows c = omega arith
@@ -22,7 +22,7 @@ sub-rows c = omega arith
 loop-holds : tie.Need-loop-holds Inv-loop μ-loop
 loop-holds c =
     let a = c .before .before .args in
-    (omega arith, columns-none (entriesAt (placeInBlock (a .w)) (now (a .part))) (a .h) (a .from) (a .w) (now (a .work)))
+    (omega arith, columns-none (entriesAt (placeInBlock (a .w)) (now (a .part))) (a .end) (a .from) (a .w) (now (a .work)))
 
 sub-backward-row : tie.Need-sub-backward-row Inv-loop μ-loop
 sub-backward-row c = omega arith
@@ -48,7 +48,7 @@ loop-again c =
     let a = c .before .before .before .before .before .before .before .before .args in
     let l = c .before .before .before .before .before .loop in (
       omega arith,
-      columns-next (entriesAt (placeInBlock (a .w)) (now (a .part))) (a .h) (l .k) (a .from) (a .w) (now (a .work)) (l .work) _
+      columns-next (entriesAt (placeInBlock (a .w)) (now (a .part))) (a .end) (l .k) (a .from) (a .w) (now (a .work)) (l .work) _
           (omega arith) (l .inv .1) (c .before .before .backward-row .ensures),
     )
 
@@ -59,7 +59,7 @@ returns : tie.Need-returns Inv-loop μ-loop
 returns c =
     let a = c .before .before .before .before .args in
     let l = c .before .loop in
-    let all : l .k ≡ a .h - a .w = omega arith in
+    let all : l .k ≡ a .end - a .first = omega arith in
     rw all at (l .inv .1)
 
 pub backward-last-columns-spec : {M : Type 1} → statement M

@@ -1,4 +1,5 @@
--- `solve::blocked::backward_rows` meets its contract. The invariant of its loop: the products are subtracted from the rows before s. Assumes nothing.
+-- `solve::blocked::backward_rows` meets its contract. The invariant of its loop: the products of the rows from `end` on are subtracted. Assumes nothing.
+use borrow.Author.Needs.{needs}
 use Prim.Native.Nat.{_+_, _-_, _≤_}
 use native.Mathlib.Omega.{arith}
 use mathlib.Core.Path.{_≡_, _∙_}
@@ -6,68 +7,58 @@ use denote.Ref.{now}
 use Rattle.shape.specs.Places.{placeInBlock}
 use Rattle.solve.specs.Substitution.{entriesAt, ColumnsSubtracted}
 use Rattle.solve.proofs.BlockColumns.{rows-beside}
-use Rattle.solve.proofs.Rows.{replaced-none, columns-join}
+use Rattle.solve.proofs.Rows.{columns-none, columns-add}
 use Rattle.solve.proofs.blocked.backward_rows.Statement.{statement}
 use Rattle.solve.proofs.blocked.backward_rows.Tie as tie
 
 abbrev Inv-loop : tie.InvT-loop
-Inv-loop h w part work₀ s₀ work s = (s ≤ w) × ColumnsSubtracted (entriesAt (placeInBlock w) part) h (h - w) 0 s work₀ work
+Inv-loop h w part work₀ end₀ work end = (w ≤ end) × (end ≤ h) × ColumnsSubtracted (entriesAt (placeInBlock w) part) h (h - end) 0 w work₀ work
 
 abbrev μ-loop : tie.MeasureT-loop
-μ-loop h w part work₀ s₀ work s = w - s
+μ-loop h w part work₀ end₀ work end = end
 
 loop-holds : tie.Need-loop-holds Inv-loop μ-loop
-loop-holds c = (omega arith, replaced-none _ 0 (now (c .before .before .args .work)))
+loop-holds c =
+    let a = c .before .before .args in
+    let none : a .h - a .h ≡ 0 = omega arith in
+    (omega arith, omega arith, rw none (columns-none (entriesAt (placeInBlock (a .w)) (now (a .part))) (a .h) 0 (a .w) (now (a .work))))
 
-add-loop : tie.Need-add-loop Inv-loop μ-loop
-add-loop c = omega arith
+tile-start-requires : tie.Need-tile-start-requires Inv-loop μ-loop
+tile-start-requires c κs = omega arith
 
-backward-columns16-requires : tie.Need-backward-columns16-requires Inv-loop μ-loop
-backward-columns16-requires c κs =
-    let p = c .before .before .before .before .before .pre in
-    let a = c .before .before .before .before .before .args in
-    let l = c .before .before .loop in
-    (rows-beside (a .h) (a .w) (now (a .part)) (now (a .work)) (l .work) p (l .inv .1 .size), omega arith)
-
-add-s : tie.Need-add-s Inv-loop μ-loop
-add-s c = omega arith
+backward-tile-requires : tie.Need-backward-tile-requires Inv-loop μ-loop
+backward-tile-requires c κs =
+    let a = c .before .before .before .before .before .before .args in
+    let l = c .before .before .before .loop in (
+      rows-beside (a .h) (a .w) (now (a .part)) (now (a .work)) (l .work) (c .before .before .before .before .before .before .pre)
+          (l .inv .2 .size),
+      omega (arith, c .before .tile-start .ensures),
+    )
 
 loop-less : tie.Need-loop-less Inv-loop μ-loop
-loop-less c = omega arith
+loop-less c = omega (arith, c .before .before .before .before .tile-start .ensures)
 
 loop-again : tie.Need-loop-again Inv-loop μ-loop
 loop-again c =
-    let a = c .before .before .before .before .before .before .before .before .args in
-    let l = c .before .before .before .before .before .loop in (
-      omega arith,
-      columns-join (entriesAt (placeInBlock (a .w)) (now (a .part))) (a .h) (a .h - a .w) 0 (l .s) (l .s + 16) (now (a .work)) (l .work) _
-          (omega arith) (omega arith) (omega arith) (l .inv .1) (c .before .before .backward-columns16 .ensures),
+    let a = c .before .before .before .before .before .before .before .before .before .args in
+    let l = c .before .before .before .before .before .before .loop in
+    let first = c .before .before .before .before .tile-start .result in
+    let here : a .h - (a .h - l .end) ≡ l .end = omega arith in
+    let all : a .h - l .end + (l .end - first) ≡ a .h - first = omega (arith, c .before .before .before .before .tile-start .ensures) in (
+      c .before .before .before .before .tile-start .ensures .0,
+      omega (arith, c .before .before .before .before .tile-start .ensures),
+      rw all at (columns-add (entriesAt (placeInBlock (a .w)) (now (a .part))) (a .h) (a .h - l .end) (l .end - first) 0 (a .w) (now (a .work))
+          (l .work) (c .before .before .backward-tile .last .1 .1 .1 .1 .1 .0)
+          (omega (arith, c .before .before .before .before .tile-start .ensures)) (l .inv .2) (rw here (c .before .before .backward-tile .ensures))),
     )
 
-backward-last-columns-requires : tie.Need-backward-last-columns-requires Inv-loop μ-loop
-backward-last-columns-requires c κs =
-    let p = c .before .before .before .before .before .before .pre in
-    let a = c .before .before .before .before .before .before .args in
-    let l = c .before .before .before .loop in
-    (rows-beside (a .h) (a .w) (now (a .part)) (now (a .work)) (l .work) p (l .inv .1 .size), omega arith)
-
 same-length : tie.Need-same-length Inv-loop μ-loop
-same-length c = c .before .before .backward-last-columns .ensures .size ∙ c .before .before .before .before .before .before .loop .inv .1 .size
+same-length c = c .before .loop .inv .2 .size
 
 returns : tie.Need-returns Inv-loop μ-loop
 returns c =
-    let a = c .before .before .before .before .before .before .before .before .before .args in
-    let l = c .before .before .before .before .before .before .loop in
-    columns-join (entriesAt (placeInBlock (a .w)) (now (a .part))) (a .h) (a .h - a .w) 0 (l .s) (a .w) (now (a .work)) (l .work) _
-    (omega arith) (omega arith) (omega arith) (l .inv .1) (c .before .before .backward-last-columns .ensures)
-
-same-length-2 : tie.Need-same-length-2 Inv-loop μ-loop
-same-length-2 c = c .before .before .loop .inv .1 .size
-
-returns-2 : tie.Need-returns-2 Inv-loop μ-loop
-returns-2 c =
-    let end : c .before .before .loop .s ≡ c .before .before .before .before .before .args .w = omega arith in
-    rw end at (c .before .before .loop .inv .1)
+    let all : c .before .loop .end ≡ c .before .before .before .before .args .w = omega (arith, c .loop-test .left, c .before .loop .inv .0) in
+    rw all at (c .before .loop .inv .2)
 
 pub backward-rows-spec : {M : Type 1} → statement M
 backward-rows-spec =
@@ -76,13 +67,9 @@ backward-rows-spec =
     Inv-loop
     μ-loop
     loop-holds
-    add-loop
-    backward-columns16-requires
-    add-s
+    tile-start-requires
+    backward-tile-requires
     loop-less
     loop-again
-    backward-last-columns-requires
     same-length
-    returns
-    same-length-2
-    returns-2)
+    returns)
