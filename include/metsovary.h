@@ -25,7 +25,7 @@
  *   11  a factor: an entry below an accepted pivot is not finite              the column
  *   12  a solver: a value of a solution is not finite                         the right-hand side
  *
- * After 1 to 9 all memory is as it was. On success and after 10 to 12 the needed length of work memory is +0 and the rest as it was. */
+ * The value is +0 except under 10. After 1 to 9 all memory is as it was. On success and after 10 to 12 the needed length of work memory is +0 and the rest as it was. */
 #ifndef METSOVARY_H
 #define METSOVARY_H
 

@@ -200,6 +200,11 @@ double from_bits(uint64_t bits) {
     return x;
 }
 
+double any_nan(void) {
+    uint64_t bits = random_bits();
+    return from_bits(bits | 0x7ff0000000000000u | (bits & 0xfffffffffffffu ? 0 : 1));
+}
+
 uint64_t to_bits(double x) {
     uint64_t bits;
     memcpy(&bits, &x, 8);

@@ -33,6 +33,7 @@ uint64_t random_bits(void);         /* a fixed sequence */
 double random_unit(void);           /* between -1 and 1 */
 double from_bits(uint64_t);
 uint64_t to_bits(double);
+double any_nan(void);               /* any sign, quiet or signalling, any payload */
 void fill_any(memory);              /* any bits: NaNs of all kinds, infinities, subnormals */
 
 /* ---- counting ---- */

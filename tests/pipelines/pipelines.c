@@ -32,7 +32,7 @@ static void both(size_t n, size_t b, size_t m, unsigned kind, bool with_referenc
     memory a = memory_new(triangle(n)), x = memory_new(n * m), w = memory_new(n), v = memory_new(needed(n, b) + 3);
     make(a, n, kind);
     for (size_t k = 0; k < x.length; k++) x.values[k] = kind == 0 || random_bits() % 50 ? random_unit() : ldexp(random_unit(), (int)(random_bits() % 2000) - 1000);
-    if (x.length && kind && random_bits() % 30 == 0) x.values[random_bits() % x.length] = NAN;
+    if (x.length && kind && random_bits() % 30 == 0) x.values[random_bits() % x.length] = any_nan();
     fill_any(w);
     fill_any(v);
     memory c = memory_copy(a), z = memory_copy(x);
@@ -100,7 +100,7 @@ static void blocked_refusals(size_t n, size_t b) {
     for (size_t p = 0; p < triangle(n); p++) { /* 7 and 9 */
         memory a = memory_new(triangle(n)), x = memory_new(n * m);
         for (size_t j = 0; j < n; j++) a.values[place(BLOCKED, shape, j, j)] = 2;
-        a.values[p] = p % 2 ? INFINITY : NAN;
+        a.values[p] = p % 2 ? INFINITY : any_nan();
         fill_any(v);
         compare_factor(BLOCKED, shape, a, v);
         compare_solve(BLOCKED, shape, m, a, x, v);
@@ -112,7 +112,7 @@ static void blocked_refusals(size_t n, size_t b) {
     for (size_t p = 0; p < n * m; p++) { /* 8, and 12 by y and by x */
         memory a = memory_new(triangle(n)), x = memory_new(n * m);
         for (size_t j = 0; j < n; j++) a.values[place(BLOCKED, shape, j, j)] = ldexp(1, -200);
-        x.values[p] = NAN;
+        x.values[p] = any_nan();
         metsovary_result r = compare_solve(BLOCKED, shape, m, a, x, v);
         expect(r.code == 8 && r.place == p, "8 at %zu", p);
         x.values[p] = p % 2 ? ldexp(1, 1000) : ldexp(1, 700);
@@ -161,6 +161,14 @@ int main(void) {
         compare_solve(BLOCKED, wrong[k], UINT64_MAX, none, none, none);
     }
     memory_free(none);
+    group("order 0 with null pointers");
+    metsovary_shape empty = {0, 64};
+    expect(metsovary_packed_to_blocked(empty, NULL, 0, NULL, 0).code == 0, "packed to blocked");
+    expect(metsovary_blocked_to_packed(empty, NULL, 0, NULL, 0).code == 0, "blocked to packed");
+    expect(metsovary_factor_plain(empty, NULL, 0, NULL, 0).code == 0, "plain factor");
+    expect(metsovary_factor_blocked(empty, NULL, 0, NULL, 0).code == 0, "blocked factor");
+    expect(metsovary_solve_plain(empty, 3, NULL, 0, NULL, 0, NULL, 0).code == 0, "plain solver");
+    expect(metsovary_solve_blocked(empty, 3, NULL, 0, NULL, 0, NULL, 0).code == 0, "blocked solver");
     group("both pipelines, n 4000, b 64 and 200");
     both(4000, 64, 2, 0, false);
     both(4000, 200, 1, 0, false);

@@ -41,13 +41,13 @@ static void all_refusals(size_t n) {
     metsovary_shape shape = {n, 1};
     size_t m = 3;
     memory work = memory_new(n);
-    static const double bad[] = {INFINITY, -INFINITY, NAN};
     for (size_t k = 0; k < 3; k++) {
+        double bad = k == 0 ? INFINITY : k == 1 ? -INFINITY : any_nan();
         for (size_t p = 0; p < triangle(n); p++) { /* 7, and two of them */
             memory a = memory_new(triangle(n)), x = memory_new(n * m);
             make(a, n, DEFINITE);
-            a.values[p] = bad[k];
-            if (p + 2 < a.length) a.values[p + 2] = NAN;
+            a.values[p] = bad;
+            if (p + 2 < a.length) a.values[p + 2] = any_nan();
             fill_any(work);
             metsovary_result r = compare_factor(PACKED, shape, a, work);
             expect(r.code == 7 && r.place == p, "7 at %zu", p);
@@ -58,7 +58,7 @@ static void all_refusals(size_t n) {
         for (size_t p = 0; p < n * m; p++) { /* 8 */
             memory a = memory_new(triangle(n)), x = memory_new(n * m);
             make(a, n, DEFINITE);
-            x.values[p] = bad[k];
+            x.values[p] = bad;
             metsovary_result r = compare_solve(PACKED, shape, m, a, x, work);
             expect(r.code == 8 && r.place == p, "8 at %zu", p);
             memory_free(a);

@@ -61,6 +61,9 @@ minusOne = 0xBFF0_0000_0000_0000
 abbrev minusTwo : ℕ
 minusTwo = 0xC000_0000_0000_0000
 
+abbrev minusFive : ℕ
+minusFive = 0xC014_0000_0000_0000
+
 abbrev infinity : ℕ
 infinity = 0x7FF0_0000_0000_0000
 
@@ -144,11 +147,30 @@ solves layout n b m factor rhs answer after =
     let d = solve layout n b m (memory factor) (memory rhs) (used n) in
     gives (d .result) answer && holds (d .rhs) after && holds (d .work) (cleared n)
 
--- a pipeline that accepts: needed; the matrix, the right-hand sides and the work memory at its end
-ends : Ended → ℕ → List ℕ → List ℕ → Bool
+-- The same calls refused by a check, with work memory of any length: the result, and all memory as it was.
+moveRefused : Layout → Layout → ℕ → ℕ → List ℕ → List ℕ → Answer → Bool
+unfolding memory holds gives
+moveRefused from to n b matrix work answer =
+    let d = rearrange from to n b (memory matrix) (memory work) in
+    gives (d .result) answer && holds (d .matrix) matrix && holds (d .work) work
+
+factorRefused : Layout → ℕ → ℕ → List ℕ → List ℕ → Answer → Bool
+unfolding memory holds gives
+factorRefused layout n b matrix work answer =
+    let d = factorize layout n b (memory matrix) (memory work) in
+    gives (d .result) answer && holds (d .matrix) matrix && holds (d .work) work
+
+solveRefused : Layout → ℕ → ℕ → ℕ → List ℕ → List ℕ → List ℕ → Answer → Bool
+unfolding memory holds gives
+solveRefused layout n b m factor rhs work answer =
+    let d = solve layout n b m (memory factor) (memory rhs) (memory work) in
+    gives (d .result) answer && holds (d .rhs) rhs && holds (d .work) work
+
+-- a pipeline: needed; the factor's and the solver's result, the matrix and the right-hand sides at its end
+ends : Ended → ℕ → Answer → Answer → List ℕ → List ℕ → Bool
 unfolding holds gives cleared
-ends e needed matrix rhs =
-    gives (e .factorResult) success && gives (e .solverResult) success && holds (e .matrix) matrix && holds (e .rhs) rhs
+ends e needed factor solver matrix rhs =
+    gives (e .factorResult) factor && gives (e .solverResult) solver && holds (e .matrix) matrix && holds (e .rhs) rhs
     && holds (e .work) (cleared needed)
 
 -- b needed: the job of document 01 on both pipelines, its factor in packed order and its solution
@@ -159,7 +181,8 @@ job b needed =
     let rhs = memory (four ∷ seventeen ∷ nine ∷ []) in
     let factor = two ∷ one ∷ minusOne ∷ three ∷ two ∷ one ∷ [] in
     let x = one ∷ one ∷ one ∷ [] in
-    ends (plainPipeline 3 b 1 matrix rhs (used 3)) 3 factor x && ends (blockedPipeline 3 b 1 matrix rhs (used needed)) needed factor x
+    ends (plainPipeline 3 b 1 matrix rhs (used 3)) 3 success success factor x
+    && ends (blockedPipeline 3 b 1 matrix rhs (used needed)) needed success success factor x
 
 -- n b i j; the place
 at : ℕ → ℕ → ℕ → ℕ → ℕ → Bool
@@ -171,7 +194,7 @@ hasRoot v r = eqb (toBits binary64 (root (ofBits binary64 v))) r
 -- ---- the table
 
 pub rows : List Bool
-unfolding moves factors solves job at hasRoot gives memory
+unfolding moves factors solves moveRefused factorRefused solveRefused ends job at hasRoot gives memory used
 rows =
     -- n 0, empty memory: success.
     gives (rearrange Packed Blocked 0 1 [] [] .result) success
@@ -274,6 +297,31 @@ rows =
     ∷ gives (solverChecks Blocked 3 2 0 (memory (one ∷ one ∷ one ∷ infinity ∷ one ∷ one ∷ [])) [] 3) (7, 3, 0)
     ∷ gives (solverChecks Blocked 1 2 2 (memory (0 ∷ [])) (memory (one ∷ infinity ∷ [])) 1) (8, 1, 0)
     ∷ gives (solverChecks Blocked 3 2 0 (memory (one ∷ 0 ∷ one ∷ 0 ∷ 0 ∷ 0 ∷ [])) [] 3) (9, 2, 0)
+    -- The whole calls: all memory stays as it was. Under 3 and 6 it is one value too long, under 4 one too short.
+    ∷ moveRefused Packed Blocked 3 0 (four ∷ two ∷ minusTwo ∷ ten ∷ five ∷ six ∷ []) (replicate 9 infinity) (2, 0, 0)
+    ∷ moveRefused Blocked Packed 3 0 (four ∷ two ∷ minusTwo ∷ ten ∷ five ∷ six ∷ []) (replicate 9 infinity) (2, 0, 0)
+    ∷ moveRefused Packed Blocked 1 1 (four ∷ two ∷ []) (infinity ∷ []) (3, 0, 0)
+    ∷ moveRefused Packed Blocked 3 2 (four ∷ two ∷ minusTwo ∷ ten ∷ five ∷ six ∷ []) (replicate 5 infinity) (4, 0, 0)
+    ∷ moveRefused Blocked Packed 3 2 (four ∷ two ∷ minusTwo ∷ ten ∷ five ∷ six ∷ []) (replicate 5 infinity) (4, 0, 0)
+    ∷ factorRefused Blocked 1 0 (four ∷ []) (infinity ∷ []) (2, 0, 0)
+    ∷ factorRefused Packed 1 1 (four ∷ two ∷ []) (infinity ∷ []) (3, 0, 0)
+    ∷ factorRefused Packed 2 1 (four ∷ two ∷ ten ∷ []) (infinity ∷ []) (4, 0, 0)
+    ∷ factorRefused Blocked 2 2 (four ∷ two ∷ ten ∷ []) (replicate 3 infinity) (4, 0, 0)
+    ∷ factorRefused Packed 2 1 (four ∷ two ∷ infinity ∷ []) (replicate 2 infinity) (7, 2, 0)
+    ∷ factorRefused Blocked 2 1 (four ∷ two ∷ infinity ∷ []) (replicate 2 infinity) (7, 2, 0)
+    ∷ solveRefused Blocked 1 0 1 (two ∷ []) (four ∷ []) (infinity ∷ []) (2, 0, 0)
+    ∷ solveRefused Packed 1 1 1 (two ∷ two ∷ []) (four ∷ []) (infinity ∷ []) (3, 0, 0)
+    ∷ solveRefused Packed 2 1 1 (two ∷ one ∷ two ∷ []) (four ∷ six ∷ []) (infinity ∷ []) (4, 0, 0)
+    ∷ solveRefused Blocked 2 2 1 (two ∷ one ∷ two ∷ []) (four ∷ six ∷ []) (infinity ∷ []) (4, 0, 0)
+    ∷ solveRefused Packed 1 1 1001 (two ∷ []) (four ∷ []) (infinity ∷ []) (5, 0, 0)
+    ∷ solveRefused Packed 1 1 1 (two ∷ []) (four ∷ six ∷ []) (infinity ∷ []) (6, 0, 0)
+    ∷ solveRefused Blocked 1 1 1 (two ∷ []) (four ∷ six ∷ []) (infinity ∷ []) (6, 0, 0)
+    ∷ solveRefused Packed 2 1 1 (two ∷ one ∷ infinity ∷ []) (four ∷ six ∷ []) (replicate 2 infinity) (7, 2, 0)
+    ∷ solveRefused Packed 1 1 2 (two ∷ []) (four ∷ infinity ∷ []) (infinity ∷ []) (8, 1, 0)
+    ∷ solveRefused Blocked 2 1 1 (two ∷ one ∷ 0 ∷ []) (four ∷ six ∷ []) (replicate 2 infinity) (9, 1, 0)
+    ∷ moveRefused Packed Blocked 4001 2 (four ∷ []) (infinity ∷ []) (1, 0, 0)
+    ∷ factorRefused Packed 4001 1 (four ∷ []) (infinity ∷ []) (1, 0, 0)
+    ∷ solveRefused Packed 4001 1 1 (two ∷ []) (four ∷ []) (infinity ∷ []) (1, 0, 0)
     -- The plain calls do not judge b.
     ∷ factors Packed 1 0 1 (four ∷ []) success (two ∷ [])
     ∷ solves Packed 1 201 1 (two ∷ []) (four ∷ []) success (one ∷ [])
@@ -286,7 +334,23 @@ rows =
     ∷ moves Blocked Packed 5 2 10 (one ∷ two ∷ six ∷ three ∷ 0 ∷ infinity ∷ minusZero ∷ five ∷ nine ∷ ten ∷ minusOne ∷ four ∷ minusTwo ∷ minusInfinity ∷ fifteen ∷ [])
     (one ∷ two ∷ three ∷ infinity ∷ five ∷ six ∷ 0 ∷ minusZero ∷ nine ∷ ten ∷ minusOne ∷ minusTwo ∷ four ∷ minusInfinity ∷ fifteen ∷ [])
     -- A refused column in the last, narrower block column: the block column before it stays finished.
-    ∷ factors Blocked 3 2 6 (four ∷ two ∷ ten ∷ minusTwo ∷ five ∷ 0 ∷ []) (10, 2, 0xC014_0000_0000_0000) (two ∷ one ∷ three ∷ minusOne ∷ two ∷ 0 ∷ [])
+    ∷ factors Blocked 3 2 6 (four ∷ two ∷ ten ∷ minusTwo ∷ five ∷ 0 ∷ []) (10, 2, minusFive) (two ∷ one ∷ three ∷ minusOne ∷ two ∷ 0 ∷ [])
+    -- A refused factor ends its pipeline, the blocked one in blocked order; after a refused solver the factor stands in packed order.
+    ∷ ends (plainPipeline 3 2 1 (memory (four ∷ two ∷ minusTwo ∷ ten ∷ five ∷ 0 ∷ [])) (memory (four ∷ seventeen ∷ nine ∷ [])) (used 3)) 3
+    (10, 2, minusFive) (10, 2, minusFive) (two ∷ one ∷ minusOne ∷ three ∷ two ∷ 0 ∷ []) (four ∷ seventeen ∷ nine ∷ [])
+    ∷ ends (blockedPipeline 3 2 1 (memory (four ∷ two ∷ minusTwo ∷ ten ∷ five ∷ 0 ∷ [])) (memory (four ∷ seventeen ∷ nine ∷ [])) (used 6)) 6
+    (10, 2, minusFive) (10, 2, minusFive) (two ∷ one ∷ three ∷ minusOne ∷ two ∷ 0 ∷ []) (four ∷ seventeen ∷ nine ∷ [])
+    ∷ ends (plainPipeline 3 2 1 (memory (four ∷ two ∷ minusTwo ∷ ten ∷ five ∷ six ∷ [])) (memory (four ∷ infinity ∷ nine ∷ [])) (used 3)) 3
+    success (8, 1, 0) (two ∷ one ∷ minusOne ∷ three ∷ two ∷ one ∷ []) (four ∷ infinity ∷ nine ∷ [])
+    ∷ ends (blockedPipeline 3 2 1 (memory (four ∷ two ∷ minusTwo ∷ ten ∷ five ∷ six ∷ [])) (memory (four ∷ infinity ∷ nine ∷ [])) (used 6)) 6
+    success (8, 1, 0) (two ∷ one ∷ minusOne ∷ three ∷ two ∷ one ∷ []) (four ∷ infinity ∷ nine ∷ [])
+    -- 11 at column 1: column 0 stays finished unless it is of the same block column.
+    ∷ factors Packed 3 1 3 (four ∷ 0 ∷ two ∷ twoToMinus1000 ∷ twoTo600 ∷ one ∷ []) (11, 1, 0)
+    (two ∷ 0 ∷ one ∷ twoToMinus1000 ∷ twoTo600 ∷ one ∷ [])
+    ∷ factors Blocked 3 1 3 (four ∷ 0 ∷ two ∷ twoToMinus1000 ∷ twoTo600 ∷ one ∷ []) (11, 1, 0)
+    (two ∷ 0 ∷ one ∷ twoToMinus1000 ∷ twoTo600 ∷ one ∷ [])
+    ∷ factors Blocked 3 2 6 (four ∷ 0 ∷ twoToMinus1000 ∷ two ∷ twoTo600 ∷ one ∷ []) (11, 1, 0)
+    (four ∷ 0 ∷ twoToMinus1000 ∷ two ∷ twoTo600 ∷ one ∷ [])
     -- 10 stands before 11 within a column.
     ∷ factors Packed 2 1 2 (0 ∷ one ∷ one ∷ []) (10, 0, 0) (0 ∷ one ∷ one ∷ [])
     -- l(3,2) is 1 − 2^−54 − 1: +0 with rising k, −2^−54 with falling k or the products summed first.
