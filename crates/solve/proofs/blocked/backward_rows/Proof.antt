@@ -1,8 +1,7 @@
 -- `solve::blocked::backward_rows` meets its contract. The invariant of its loop: the products of the rows from `end` on are subtracted. Assumes nothing.
-use borrow.Author.Needs.{needs}
 use Prim.Native.Nat.{_+_, _-_, _≤_}
 use native.Mathlib.Omega.{arith}
-use mathlib.Core.Path.{_≡_, _∙_}
+use mathlib.Core.Path.{_≡_}
 use denote.Ref.{now}
 use Rattle.shape.specs.Places.{placeInBlock}
 use Rattle.solve.specs.Substitution.{entriesAt, ColumnsSubtracted}
