@@ -15,11 +15,9 @@ use crate::reader::read_field;
 use crate::reader::wide;
 use shape::Shape;
 
-const MAX_ORDER: u64 = 64;
+pub const MAX_ORDER: usize = 64;
 
-const MAX_BLOCK: u64 = 200;
-
-const MAX_RHS: u64 = 16;
+pub const MAX_RHS: usize = 16;
 
 // Where the bit map begins.
 const MAP: usize = 5;
@@ -46,11 +44,11 @@ fn bounded_field(file: &[u8], at: usize, width: usize, low: u64, high: u64) -> F
 pub fn read_sizes(file: &[u8]) -> Head
     ensures { λ r. ⌜ parsedSizes r ≡ readSizes (now (file .entry)) ⌝ }
 {
-    match bounded_field(file, 0, 2, 0, MAX_ORDER) {
+    match bounded_field(file, 0, 2, 0, MAX_ORDER as u64) {
         Field::Fault(place) => Head::Fault(place),
-        Field::Found(order, at) => match bounded_field(file, at, 2, 1, MAX_BLOCK) {
+        Field::Found(order, at) => match bounded_field(file, at, 2, 1, Shape::MAX_BLOCK as u64) {
             Field::Fault(place) => Head::Fault(place),
-            Field::Found(block, at) => match bounded_field(file, at, 1, 0, MAX_RHS) {
+            Field::Found(block, at) => match bounded_field(file, at, 1, 0, MAX_RHS as u64) {
                 Field::Fault(place) => Head::Fault(place),
                 Field::Found(count, at) => Head::Found(
                     Sizes {

@@ -16,6 +16,8 @@ mod reader;
 use calls::CallResult;
 use calls::check_finite;
 use engine::blocked_pipeline;
+use format::MAX_ORDER;
+use format::MAX_RHS;
 use format::read_contents;
 use format::read_map;
 use format::read_sizes;
@@ -55,13 +57,13 @@ pub enum Head {
 }
 
 // The most values of a matrix, of right-hand sides and of work memory that a job can need, and the bytes of the longest listing.
-const MATRIX: usize = 2080;
+const MATRIX: usize = MAX_ORDER * (MAX_ORDER + 1) / 2;
 
-const RHS: usize = 1024;
+const RHS: usize = MAX_ORDER * MAX_RHS;
 
-const WORK: usize = 4096;
+const WORK: usize = MAX_ORDER * MAX_ORDER;
 
-const LISTING: usize = 58998;
+pub const LISTING: usize = 58998;
 
 // Codes 7 and 8 on the job's memory, then the blocked pipeline.
 fn solve_job(sizes: Sizes, matrix: &mut [f64], rhs: &mut [f64]) -> CallResult

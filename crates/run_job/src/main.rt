@@ -1,14 +1,13 @@
 // Reads one job from standard input and writes its listing to standard output. A failed read or write is told on standard error.
 ghost use Prim.Native.Nat.{_≤_};
 ghost use lib.ListN.{length};
+use job::LISTING;
 use libc::STDERR_FILENO;
 use libc::STDIN_FILENO;
 use libc::STDOUT_FILENO;
 
 // One byte more than the longest job has, so that an extra byte is seen.
 const JOB: usize = 25098;
-
-const LISTING: usize = 58998;
 
 // How many bytes were read, and whether a read failed.
 struct Input {
