@@ -1,7 +1,6 @@
 // One block column, given by the shape whose first block column it is: its order is the block column's number of rows, its block length the width.
 // Below the diagonal block rows are taken in tiles, which stay in the cache while one layout is gone through by columns, the other by rows.
-ghost use mathlib.Core.Path.{_≡_};
-ghost use Prim.Native.Nat.{_≤_, _<_, min};
+ghost use Prim.Native.Nat.{_≤_, _<_};
 ghost use lib.ListN.{length};
 ghost use Rattle.rearrange.specs.Moves.{Sizes, Moved, MovedWithin};
 use crate::below::rows_to_blocked;
@@ -9,15 +8,10 @@ use crate::below::rows_to_packed;
 use crate::diagonal::move_diagonal;
 use calls::Layout;
 use shape::Shape;
+use shape::least;
 
 // Rows of a tile: of 64 columns it has 16 KB.
 const TILE: usize = 32;
-
-fn lesser(x: usize, y: usize) -> usize
-    ensures { λ r. ⌜ r ≡ min x y ⌝ }
-{
-    if x < y { x } else { y }
-}
 
 // Rows first .. end − 1, below the diagonal block.
 fn move_tile(to: Layout, part: Shape, first: usize, end: usize, source: &[f64], target: &mut [f64])
@@ -39,7 +33,7 @@ fn move_rows(to: Layout, part: Shape, source: &[f64], target: &mut [f64])
     let n = part.order;
     let mut r = part.block;
     while r < n {
-        let end = lesser(r + TILE, n);
+        let end = least(r + TILE, n);
         move_tile(to, part, r, end, source, target);
         r = end;
     }

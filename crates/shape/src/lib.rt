@@ -1,7 +1,7 @@
 // The shape of a matrix: its order and block length, with their bounds and the places of its entries.
 ghost use mathlib.Core.Path.{_≡_};
 ghost use mathlib.Core.Bool.{_&&_};
-ghost use Prim.Native.Nat.{_≤_, _<_};
+ghost use Prim.Native.Nat.{_≤_, _<_, min};
 ghost use lib.Dec.{leb, ltb};
 ghost use Rattle.shape.specs.Bounds.{maxOrder, maxBlock, maxRhs};
 ghost use Rattle.shape.specs.Places.{triangle, packedPlace, blockOf, blockStart, width, placeInBlock, blockedPlace, blockWork};
@@ -12,6 +12,12 @@ ghost use Rattle.shape.specs.Layouts.{Entry};
 pub struct Shape {
     pub order: usize,
     pub block: usize,
+}
+
+pub fn least(a: usize, b: usize) -> usize
+    ensures { λ r. ⌜ r ≡ min a b ⌝ }
+{
+    if a < b { a } else { b }
 }
 
 impl Shape {
@@ -85,8 +91,7 @@ impl Shape {
         requires { ⌜ c ≤ self .order ⌝ }
         ensures { λ r. ⌜ r ≡ width (self .order) (self .block) c ⌝ }
     {
-        let left = self.order - c;
-        if self.block < left { self.block } else { left }
+        least(self.block, self.order - c)
     }
 
     // The place of column s of row r in a block column of width w, from the block column's start.
@@ -119,6 +124,6 @@ impl Shape {
         requires { ⌜ self .order ≤ maxOrder ⌝ }
         ensures { λ r. ⌜ r ≡ blockWork (self .order) (self .block) ⌝ }
     {
-        self.order * self.block_width(0)
+        self.order * least(self.order, self.block)
     }
 }

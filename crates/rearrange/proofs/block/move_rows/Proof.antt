@@ -26,27 +26,27 @@ move-diagonal-requires c κs = search needs
 loop-holds : tie.Need-loop-holds Inv-loop μ-loop
 loop-holds c = (refl, omega arith, omega arith, moved-no-rows)
 
-add-lesser : tie.Need-add-lesser Inv-loop μ-loop
-add-lesser c = omega arith
+add-least : tie.Need-add-least Inv-loop μ-loop
+add-least c = omega arith
 
-lesser-requires : tie.Need-lesser-requires Inv-loop μ-loop
-lesser-requires c κs = search needs
+least-requires : tie.Need-least-requires Inv-loop μ-loop
+least-requires c κs = search needs
 
 move-tile-requires : tie.Need-move-tile-requires Inv-loop μ-loop
 move-tile-requires c κs =
-    let rows = c .before .lesser .ensures in
+    let rows = c .before .least .ensures in
     let size = c .before .before .before .before .before .before .move-diagonal .kept in
     (omega arith, omega arith)
 
 loop-less : tie.Need-loop-less Inv-loop μ-loop
-loop-less c = omega (arith, c .before .before .before .before .lesser .ensures)
+loop-less c = omega (arith, c .before .before .before .before .least .ensures)
 
 loop-again : tie.Need-loop-again Inv-loop μ-loop
 loop-again c =
     let at = c .before .before .before .before .before .before .loop in (
       omega (arith, c .before .before .move-tile .kept),
-      omega (arith, c .before .before .before .before .lesser .ensures),
-      omega (arith, c .before .before .before .before .lesser .ensures),
+      omega (arith, c .before .before .before .before .least .ensures),
+      omega (arith, c .before .before .before .before .least .ensures),
       join-rows (at .inv .3) (c .before .before .move-tile .ensures),
     )
 
@@ -66,8 +66,8 @@ move-rows-spec =
     μ-loop
     move-diagonal-requires
     loop-holds
-    add-lesser
-    lesser-requires
+    add-least
+    least-requires
     move-tile-requires
     loop-less
     loop-again
