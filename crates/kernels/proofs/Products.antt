@@ -4,7 +4,7 @@ use native.Mathlib.Nat as Nat
 use native.Mathlib.Nat.{add-zero, add-suc}
 use native.Mathlib.Numerals.{add-one}
 use native.Mathlib.Omega.{arith}
-use mathlib.Core.Path.{_≡_, refl, sym, ap, ap₂, _∙_}
+use mathlib.Core.Path.{_≡_, refl, ap, ap₂, _∙_}
 use mathlib.Core.Bool.{Bool, true, false, cond}
 use mathlib.Core.List.{List}
 use lib.Dec.{eqb}
@@ -52,25 +52,14 @@ unfolding minusProducts
 minus-add x y k zero t = rw add-zero
 minus-add x y k (suc c) t = rw add-suc (ap (λ u. sub binary64 u (mul binary64 (x (k + c)) (y (k + c)))) (minus-add x y k c t))
 
--- ---- a turn of a loop over k, rising and falling
-
-pub rising-next :
-    (x y : List Float) (at k : ℕ) (t value : Float) → value ≡ risingFrom x at y k t →
-    sub binary64 value (mul binary64 (getD x (at + k) nan) (getD y k nan)) ≡ risingFrom x at y (k + 1) t
-rising-next x y at k t value e =
-    ap (λ u. sub binary64 u (mul binary64 (getD x (at + k) nan) (getD y k nan))) e
-    ∙ sym (minus-next (λ q. getD x (at + q) nan) (λ q. getD y q nan) k t)
-
+-- a turn of a loop over falling k
 pub falling-next :
     (x y : List Float) (at k : ℕ) (t value : Float) → 0 < k → k ≤ length y → value ≡ fallingFrom x at y (length y - k) t →
     sub binary64 value (mul binary64 (getD x (at + (k - 1)) nan) (getD y (k - 1) nan)) ≡ fallingFrom x at y (length y - (k - 1)) t
 falling-next x y at k t value pos le e =
-    let c : ℕ = length y - k in
-    let here : k - 1 ≡ length y - 1 - c = omega arith in
-    let next : length y - (k - 1) ≡ c + 1 = omega arith in
-    ap₂ (λ u q. sub binary64 u (mul binary64 (getD x (at + q) nan) (getD y q nan))) e here
-    ∙ sym (minus-next (λ q. getD x (at + (length y - 1 - q)) nan) (λ q. getD y (length y - 1 - q) nan) c t)
-    ∙ ap (λ m. fallingFrom x at y m t) (sym next)
+    let next : length y - (k - 1) ≡ length y - k + 1 = omega arith in
+    let here : length y - 1 - (length y - k) ≡ k - 1 = omega arith in
+    rw (next, minus-next, ← e, here)
 
 -- ---- products with a part of a list
 

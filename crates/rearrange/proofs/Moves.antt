@@ -1,22 +1,23 @@
--- Laws of specs/Moves.antt: joining what was moved, moving one entry or several columns of a row, and the way back from the work memory. A move
--- writes an entry's value at the entry's own place, so none that was moved before is lost. Assumes nothing.
-use mathlib.Core.Path.{_≡_, _∙_}
+-- Laws of specs/Moves.antt: joining what was moved, moving one entry, a column or several columns of a row, and the way back from the work memory.
+-- A move writes an entry's value at the entry's own place, so none that was moved before is lost. Assumes nothing.
+use mathlib.Core.Path.{_≡_, refl, _∙_}
 use mathlib.Core.List.{List, _++_}
 use Prim.Native.Nat.{ℕ, _+_, _-_, _≤_, _<_}
 use native.Mathlib.Nat.{zero-add}
 use native.Mathlib.Decide.{decLt, ℕ-discrete}
 use native.Mathlib.Omega.{arith}
-use lib.ListN.{length, getD, set, take, drop}
+use lib.ListN.{length, getD, set, take, drop, length-set}
 use lib.Seq.{getD-set-same, getD-set-other, getD-take, length-take-le}
 use lib.Ieee.{Float, nan}
 use Rattle.shape.specs.Places.{packedPlace, blockStart, placeInBlock}
 use Rattle.shape.specs.Layouts.{Entry}
-use Rattle.shape.proofs.Rows.{place-in-block-row}
+use Rattle.shape.proofs.Columns.{packed-place-next-row}
+use Rattle.shape.proofs.Rows.{place-in-block-row, place-in-block-next-row-under}
 use Rattle.calls.specs.declared.Layout.{Layout}
-use Rattle.calls.specs.declared.Layout.the-variants.{Blocked}
+use Rattle.calls.specs.declared.Layout.the-variants.{Packed, Blocked}
 use Rattle.kernels.specs.Kernels.{Replaced}
 use Rattle.kernels.proofs.Parts.{prefix-replaced}
-use Rattle.rearrange.specs.Moves.{other, inLayout, placeInPart, Same, Moved, MovedWithin}
+use Rattle.rearrange.specs.Moves.{other, inLayout, placeInPart, Same, Sizes, Moved, MovedWithin}
 use Rattle.rearrange.proofs.Places.{place-in-part-lt, place-in-part-apart}
 
 module _ {to : Layout} {n w : ℕ} {source : List Float} where
@@ -105,6 +106,46 @@ pub moved-entry : {to : Layout} {n w r s p q : ℕ} {source t t′ : List Float}
     → Moved to n w r (r + 1) s (s + 1) source t t′
 moved-entry {to = to} {n = n} {w = w} {r = r} {s = s} {source = source} {t = t} e h full fit at-p at-q step =
     rw (step, at-p, at-q) (with-entry to n w r s source t e h full fit)
+
+-- ---- down column s below the diagonal block: the rows from first to r are moved, and p and q are the places of entry (r, s)
+
+pub record ColumnMoved (to : Layout) (n w s first r : ℕ) (source t t′ : List Float) (p q : ℕ) : Type 0 where
+  pub size : length t′ ≡ length t
+  pub low : first ≤ r
+  pub packed : p ≡ packedPlace n r s
+  pub blocked : q ≡ placeInBlock w r s
+  pub moved : Moved to n w first r s (s + 1) source t t′
+
+pub column-none : {to : Layout} {n w s first p q : ℕ} {source t : List Float}
+    → p ≡ packedPlace n first s
+    → q ≡ placeInBlock w first s
+    → ColumnMoved to n w s first first source t t p q
+column-none at-p at-q = record { size = refl; low = omega arith; packed = at-p; blocked = at-q; moved = moved-no-rows }
+
+module _ {to : Layout} {n w s first r p q : ℕ} {source t t′ : List Float}
+    (sizes : Sizes n w source t)
+    (under : (s < w) × (w ≤ first) × (r < n))
+    (done : ColumnMoved to n w s first r source t t′ p q)
+  where
+    pub column-inside : (p < blockStart n w) × (q < blockStart n w)
+    column-inside =
+        let e : Entry n r s = omega arith in (
+          omega (arith, place-in-part-lt Packed n w r s (sizes .width) e (under .0)),
+          omega (arith, place-in-part-lt Blocked n w r s (sizes .width) e (under .0)),
+        )
+
+    pub column-next :
+        ColumnMoved to n w s first (r + 1) source t (set t′ (inLayout to p q) (getD source (inLayout (other to) p q) nan)) (p + 1) (q + w)
+    column-next =
+        record {
+          size = simp length-set (done .size);
+          low = omega arith;
+          packed = omega (arith, packed-place-next-row n r s);
+          blocked = omega (arith, place-in-block-next-row-under w r s (omega arith));
+          moved =
+              join-rows (done .moved)
+              (moved-entry (omega arith) (under .0) (sizes .width) (omega arith) (done .packed) (done .blocked) refl);
+        }
 
 -- ---- columns of a row below the diagonal block, stored together in blocked order from q on
 

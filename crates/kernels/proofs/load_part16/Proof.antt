@@ -39,7 +39,9 @@ loop-less : tie.Need-loop-less Inv-loop μ-loop
 loop-less c = omega arith
 
 loop-again : tie.Need-loop-again Inv-loop μ-loop
-loop-again c = (omega arith, c .before .before .loop .inv .1, stored-next nan _ _ (c .before .before .loop .s) (c .before .before .loop .values) _ (omega arith) (c .before .before .loop .inv .2) refl)
+loop-again c =
+    let l = c .before .before .loop in
+    (omega arith, l .inv .1, stored-next nan _ _ (l .s) (l .values) _ (omega arith) (l .inv .2) refl)
 
 returns : tie.Need-returns Inv-loop μ-loop
 returns c = λ s h. c .before .loop .inv .2 .done s (omega arith)

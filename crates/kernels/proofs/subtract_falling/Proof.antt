@@ -1,7 +1,7 @@
 -- `kernels::subtract_falling` meets its contract. The invariant of its loop: the products from k on are subtracted. Assumes nothing.
 use Prim.Native.Nat.{_-_, _≤_}
 use native.Mathlib.Omega.{arith}
-use mathlib.Core.Path.{_≡_, sym, ap, _∙_}
+use mathlib.Core.Path.{_≡_, sym}
 use denote.Ref.{now}
 use lib.ListN.{length}
 use Rattle.kernels.specs.Kernels.{fallingFrom}
@@ -18,7 +18,7 @@ abbrev μ-loop : tie.MeasureT-loop
 loop-holds : tie.Need-loop-holds Inv-loop μ-loop
 loop-holds c =
     let none : length (now (c .args .y)) - length (now (c .args .y)) ≡ 0 = omega arith in
-    (omega arith, sym (minus-none _ _ _) ∙ ap (λ m. fallingFrom (now (c .args .x)) (c .args .at) (now (c .args .y)) m (c .args .t)) (sym none))
+    (omega arith, rw none (sym (minus-none _ _ _)))
 
 sub-k : tie.Need-sub-k Inv-loop μ-loop
 sub-k c = omega arith
@@ -44,18 +44,14 @@ loop-less c = omega arith
 loop-again : tie.Need-loop-again Inv-loop μ-loop
 loop-again c =
     let a = c .before .before .before .before .args in
-    let l = c .before .before .before .loop in (
-      omega arith,
-      falling-next (now (a .x)) (now (a .y)) (a .at) (l .k) (a .t) (l .value) (c .before .before .loop-test .taken) (l .inv .0)
-          (l .inv .1),
-    )
+    let l = c .before .before .before .loop in
+    (omega arith, falling-next (now (a .x)) (now (a .y)) (a .at) (l .k) _ _ (omega arith) (l .inv .0) (l .inv .1))
 
 returns : tie.Need-returns Inv-loop μ-loop
 returns c =
-    let a = c .before .before .args in
-    let l = c .before .loop in
-    let end : length (now (a .y)) - l .k ≡ length (now (a .y)) = omega arith in
-    l .inv .1 ∙ ap (λ m. fallingFrom (now (a .x)) (a .at) (now (a .y)) m (a .t)) end
+    let y = now (c .before .before .args .y) in
+    let end : length y - c .before .loop .k ≡ length y = omega arith in
+    rw end at (c .before .loop .inv .1)
 
 pub subtract-falling-spec : {M : Type 1} → statement M
 subtract-falling-spec =

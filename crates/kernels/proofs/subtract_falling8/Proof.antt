@@ -1,7 +1,7 @@
 -- `kernels::subtract_falling8` meets its contract. The invariant of its loop: the products from k on are subtracted from each value. Assumes nothing.
 use Prim.Native.Nat.{ℕ, _-_, _≤_, _<_}
 use native.Mathlib.Omega.{arith}
-use mathlib.Core.Path.{_≡_, sym, ap, _∙_}
+use mathlib.Core.Path.{_≡_, sym, _∙_}
 use denote.Ref.{now}
 use lib.ListN.{length, getD}
 use lib.Ieee.{nan}
@@ -19,13 +19,9 @@ abbrev μ-loop : tie.MeasureT-loop
 
 loop-holds : tie.Need-loop-holds Inv-loop μ-loop
 loop-holds c =
-    let a = c .before .before .args in
-    let none : length (now (a .y)) - length (now (a .y)) ≡ 0 = omega arith in (
-      omega arith,
-      λ s h.
-          sym (minus-none _ _ _)
-          ∙ ap (λ m. fallingFrom (now (a .x)) (getD (a .at) s 0) (now (a .y)) m (getD (a .t) s nan)) (sym none),
-    )
+    let y = now (c .before .before .args .y) in
+    let none : length y - length y ≡ 0 = omega arith in
+    (omega arith, λ s h. rw none (sym (minus-none _ _ _)))
 
 sub-k : tie.Need-sub-k Inv-loop μ-loop
 sub-k c = omega arith
@@ -49,16 +45,14 @@ loop-again c =
       omega arith,
       λ s h.
           c .step8 .ensures s h
-          ∙ falling-next (now (a .x)) (now (a .y)) (getD (a .at) s 0) (l .k) (getD (a .t) s nan) (getD (l .values) s nan)
-          (c .before .before .loop-test .taken) (l .inv .0) (l .inv .1 s h),
+          ∙ falling-next (now (a .x)) (now (a .y)) (getD (a .at) s 0) (l .k) _ _ (omega arith) (l .inv .0) (l .inv .1 s h),
     )
 
 returns : tie.Need-returns Inv-loop μ-loop
 returns c =
-    let a = c .before .before .before .before .args in
-    let l = c .before .loop in
-    let end : length (now (a .y)) - l .k ≡ length (now (a .y)) = omega arith in
-    λ s h. l .inv .1 s h ∙ ap (λ m. fallingFrom (now (a .x)) (getD (a .at) s 0) (now (a .y)) m (getD (a .t) s nan)) end
+    let y = now (c .before .before .before .before .args .y) in
+    let end : length y - c .before .loop .k ≡ length y = omega arith in
+    λ s h. rw end at (c .before .loop .inv .1 s h)
 
 pub subtract-falling8-spec : {M : Type 1} → statement M
 subtract-falling8-spec =

@@ -1,11 +1,11 @@
 -- `kernels::subtract_rising` meets its contract. The invariant of its loop: the first k products are subtracted. Assumes nothing.
 use Prim.Native.Nat.{_-_, _≤_}
 use native.Mathlib.Omega.{arith}
-use mathlib.Core.Path.{_≡_, sym, ap, _∙_}
+use mathlib.Core.Path.{_≡_, sym}
 use denote.Ref.{now}
 use lib.ListN.{length}
 use Rattle.kernels.specs.Kernels.{risingFrom}
-use Rattle.kernels.proofs.Products.{minus-none, rising-next}
+use Rattle.kernels.proofs.Products.{minus-none, minus-next}
 use Rattle.kernels.proofs.subtract_rising.Statement.{statement}
 use Rattle.kernels.proofs.subtract_rising.Tie as tie
 
@@ -40,17 +40,12 @@ loop-less : tie.Need-loop-less Inv-loop μ-loop
 loop-less c = omega arith
 
 loop-again : tie.Need-loop-again Inv-loop μ-loop
-loop-again c =
-    let a = c .before .before .before .before .args in
-    let l = c .before .before .before .loop in
-    (omega arith, rising-next (now (a .x)) (now (a .y)) (a .at) (l .k) (a .t) (l .value) (l .inv .1))
+loop-again c = (omega arith, rw (minus-next, ← c .before .before .before .loop .inv .1))
 
 returns : tie.Need-returns Inv-loop μ-loop
 returns c =
-    let a = c .before .before .args in
-    let l = c .before .loop in
-    let end : l .k ≡ length (now (a .y)) = omega arith in
-    l .inv .1 ∙ ap (λ m. risingFrom (now (a .x)) (a .at) (now (a .y)) m (a .t)) end
+    let end : c .before .loop .k ≡ length (now (c .before .before .args .y)) = omega arith in
+    rw end at (c .before .loop .inv .1)
 
 pub subtract-rising-spec : {M : Type 1} → statement M
 subtract-rising-spec =

@@ -1,12 +1,12 @@
 -- `kernels::subtract_rising8` meets its contract. The invariant of its loop: the first k products are subtracted from each value. Assumes nothing.
 use Prim.Native.Nat.{ℕ, _-_, _≤_, _<_}
 use native.Mathlib.Omega.{arith}
-use mathlib.Core.Path.{_≡_, sym, ap, _∙_}
+use mathlib.Core.Path.{_≡_, sym, _∙_}
 use denote.Ref.{now}
 use lib.ListN.{length, getD}
 use lib.Ieee.{nan}
 use Rattle.kernels.specs.Kernels.{risingFrom}
-use Rattle.kernels.proofs.Products.{minus-none, rising-next}
+use Rattle.kernels.proofs.Products.{minus-none, minus-next}
 use Rattle.kernels.proofs.subtract_rising8.Statement.{statement}
 use Rattle.kernels.proofs.subtract_rising8.Tie as tie
 
@@ -35,21 +35,12 @@ loop-less : tie.Need-loop-less Inv-loop μ-loop
 loop-less c = omega arith
 
 loop-again : tie.Need-loop-again Inv-loop μ-loop
-loop-again c =
-    let a = c .before .before .before .before .before .before .args in
-    let l = c .before .before .before .loop in (
-      omega arith,
-      λ s h.
-          c .step8 .ensures s h
-          ∙ rising-next (now (a .x)) (now (a .y)) (getD (a .at) s 0) (l .k) (getD (a .t) s nan) (getD (l .values) s nan) (l .inv .1 s h),
-    )
+loop-again c = (omega arith, λ s h. c .step8 .ensures s h ∙ rw (minus-next, ← c .before .before .before .loop .inv .1 s h))
 
 returns : tie.Need-returns Inv-loop μ-loop
 returns c =
-    let a = c .before .before .before .before .args in
-    let l = c .before .loop in
-    let end : l .k ≡ length (now (a .y)) = omega arith in
-    λ s h. l .inv .1 s h ∙ ap (λ m. risingFrom (now (a .x)) (getD (a .at) s 0) (now (a .y)) m (getD (a .t) s nan)) end
+    let end : c .before .loop .k ≡ length (now (c .before .before .before .before .args .y)) = omega arith in
+    λ s h. rw end at (c .before .loop .inv .1 s h)
 
 pub subtract-rising8-spec : {M : Type 1} → statement M
 subtract-rising8-spec =

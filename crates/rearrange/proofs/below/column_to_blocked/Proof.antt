@@ -1,28 +1,17 @@
 -- `rearrange::below::column_to_blocked` meets its contract. The loop's invariant: the rows before r are moved, and `from` and `to` are the places of
 -- entry (r, s). The measure is the number of rows left. Assumes nothing.
-use mathlib.Core.Path.{_≡_, refl}
-use Prim.Native.Nat.{_+_, _-_, _≤_, _<_}
+use mathlib.Core.Path.{_≡_}
+use Prim.Native.Nat.{_-_, _≤_, _<_}
 use native.Mathlib.Omega.{arith}
-use lib.ListN.{length, length-set}
-use Rattle.shape.specs.Places.{packedPlace, blockStart, placeInBlock}
-use Rattle.shape.specs.Layouts.{Entry}
-use Rattle.shape.proofs.Columns.{packed-place-next-row}
-use Rattle.shape.proofs.Rows.{place-in-block-next-row-under}
-use Rattle.calls.specs.declared.Layout.the-variants.{Packed, Blocked}
-use Rattle.rearrange.specs.Moves.{Moved}
-use Rattle.rearrange.proofs.Places.{place-in-part-lt}
-use Rattle.rearrange.proofs.Moves.{moved-no-rows, join-rows, moved-entry}
+use Rattle.shape.specs.Places.{blockStart}
+use Rattle.calls.specs.declared.Layout.the-variants.{Blocked}
+use Rattle.rearrange.proofs.Moves.{ColumnMoved, column-none, column-inside, column-next}
 use Rattle.rearrange.proofs.below.column_to_blocked.Statement.{statement}
 use Rattle.rearrange.proofs.below.column_to_blocked.Tie as tie
 
 abbrev Inv-loop : tie.InvT-loop
 Inv-loop part s first end source target₀ from₀ to₀ r₀ target from to r =
-    (length target ≡ length target₀)
-    × (first ≤ r)
-    × (r ≤ end)
-    × (from ≡ packedPlace (part .order) r s)
-    × (to ≡ placeInBlock (part .block) r s)
-    × Moved Blocked (part .order) (part .block) first r s (s + 1) source target₀ target
+    (r ≤ end) × ColumnMoved Blocked (part .order) (part .block) s first r source target₀ target from to
 
 abbrev μ-loop : tie.MeasureT-loop
 μ-loop part s first end source target₀ from₀ to₀ r₀ target from to r = end - r
@@ -34,19 +23,15 @@ place-in-block-requires : tie.Need-place-in-block-requires Inv-loop μ-loop
 place-in-block-requires c κs = omega arith
 
 loop-holds : tie.Need-loop-holds Inv-loop μ-loop
-loop-holds c = (refl, omega arith, omega arith, c .before .packed-place .ensures, c .place-in-block .ensures, moved-no-rows)
+loop-holds c = (omega arith, column-none (c .before .packed-place .ensures) (c .place-in-block .ensures))
 
 -- in a turn both places lie in the block column
 inside : (c : tie.In-loop Inv-loop μ-loop)
     → let part = c .before .before .before .before .before .before .args .part in
     (c .before .loop .from < blockStart (part .order) (part .block)) × (c .before .loop .to < blockStart (part .order) (part .block))
 inside c =
-    let args = c .before .before .before .before .before .before .args in
-    let r = c .before .loop .r in
-    let e : Entry (args .part .order) r (args .s) = omega arith in (
-      omega (arith, place-in-part-lt Packed (args .part .order) (args .part .block) r (args .s) (omega arith) e (omega arith)),
-      omega (arith, place-in-part-lt Blocked (args .part .order) (args .part .block) r (args .s) (omega arith) e (omega arith)),
-    )
+    let pre = c .before .before .before .before .before .before .pre in
+    column-inside (pre .0) (omega arith) (c .before .loop .inv .1)
 
 mul-target : tie.Need-mul-target Inv-loop μ-loop
 mul-target c = omega (arith, inside c)
@@ -74,15 +59,8 @@ loop-less c = omega arith
 
 loop-again : tie.Need-loop-again Inv-loop μ-loop
 loop-again c =
-    let args = c .before .before .before .before .before .before .before .before .args in
-    let at = c .before .before .before .loop in (
-      simp length-set (at .inv .0),
-      omega arith,
-      omega arith,
-      omega (arith, packed-place-next-row (args .part .order) (at .r) (args .s)),
-      omega (arith, place-in-block-next-row-under (args .part .block) (at .r) (args .s) (omega arith)),
-      join-rows (at .inv .5) (moved-entry (omega arith) (omega arith) (omega arith) (omega arith) (at .inv .3) (at .inv .4) refl),
-    )
+    let pre = c .before .before .before .before .before .before .before .before .pre in
+    (omega arith, column-next (pre .0) (omega arith) (c .before .before .before .loop .inv .1))
 
 same-length : tie.Need-same-length Inv-loop μ-loop
 same-length c = omega arith
@@ -90,7 +68,7 @@ same-length c = omega arith
 returns : tie.Need-returns Inv-loop μ-loop
 returns c =
     let all : c .before .loop .r ≡ c .before .before .before .before .before .before .args .end = omega arith in
-    rw all at (c .before .loop .inv .5)
+    rw all at (c .before .loop .inv .1 .moved)
 
 pub column-to-blocked-spec : {M : Type 1} → statement M
 column-to-blocked-spec =
