@@ -12,11 +12,11 @@ use Rattle.binary64.proofs.Magnitudes.{magnitude-mono}
 
 -- ---- midpoints
 
-pub upper-lower : (p : ℕ) → upperMidpoint p ≡ lowerMidpoint (p + 1)
+upper-lower : (p : ℕ) → upperMidpoint p ≡ lowerMidpoint (p + 1)
 unfolding upperMidpoint lowerMidpoint
 upper-lower p = ap (λ (x : ℕ). magnitude x + magnitude (p + 1)) (sym (add-sub-cancel p 1))
 
-pub lower-mono : {p q : ℕ} → p ≤ q → lowerMidpoint p ≤ lowerMidpoint q
+lower-mono : {p q : ℕ} → p ≤ q → lowerMidpoint p ≤ lowerMidpoint q
 unfolding lowerMidpoint
 lower-mono {p} {q} h =
     let before : p - 1 ≤ q - 1 = omega arith in

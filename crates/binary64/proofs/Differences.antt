@@ -38,7 +38,7 @@ finite-below nan h = absurd h
 finite-below (inf s) h = absurd h
 finite-below (fin s m e) h = tt
 
-pub below-of-le : (x y : Float) → T (le x y) → T (finite y) → T (belowInfinity x)
+below-of-le : (x y : Float) → T (le x y) → T (finite y) → T (belowInfinity x)
 unfolding belowInfinity le
 below-of-le nan y h k = absurd h
 below-of-le (inf true) y h k = tt
@@ -50,7 +50,7 @@ below-of-le (fin s m e) y h k = tt
 -- ---- signs
 
 -- x is no NaN and has the sign s
-abbrev pub HasSign : Float → Bool → Type 0
+abbrev HasSign : Float → Bool → Type 0
 HasSign nan s = ⊥
 HasSign (inf t) s = t ≡ s
 HasSign (fin t m e) s = t ≡ s
@@ -68,10 +68,10 @@ units-sign f s q k = go (ltb (q * 2 ^ k) (2 ^ (low f + suc (emax f))))
     go true = sign-of-value (odd (suc (prec f)) s q k (low f)) s (q * 2 ^ k) (2 ^ low f) (odd-sign (suc (prec f)) s q k (low f))
     go false = refl
 
-pub round-sign : (f : Format) (s : Bool) (a c : ℕ) → HasSign (round f s a c) s
+round-sign : (f : Format) (s : Bool) (a c : ℕ) → HasSign (round f s a c) s
 round-sign f s a c = rw round-is (units-sign f s _ _)
 
-pub square-sign : (f : Format) (x : Float) → T (finite x) → HasSign (mul f x x) false
+square-sign : (f : Format) (x : Float) → T (finite x) → HasSign (mul f x x) false
 unfolding mul
 square-sign f nan h = absurd h
 square-sign f (inf s) h = absurd h
@@ -101,7 +101,7 @@ bounds-exact f s m e short fine small =
     (lt-of-mul-lt-mul-right (down e) (rw (← same, ← top) (mul-lt-mul-of-pos-right small (pow-pos l))))
     same
 
-pub fits-exact : (f : Format) (s : Bool) (m : ℕ) (e : ℤ)
+fits-exact : (f : Format) (s : Bool) (m : ℕ) (e : ℤ)
     → T (fits f (fin s m e))
     → HasValue (round f s (m * up e) (down e)) s (m * up e) (down e)
 unfolding fits
@@ -149,7 +149,7 @@ cond-below : (b : Bool) (x y : Float) → T (belowInfinity x) → T (belowInfini
 cond-below true x y h k = h
 cond-below false x y h k = k
 
-pub sub-below : (f : Format) (s p : Float) → T (fits f s) → T (belowInfinity s) → HasSign p false → T (belowInfinity (sub f s p))
+sub-below : (f : Format) (s p : Float) → T (fits f s) → T (belowInfinity s) → HasSign p false → T (belowInfinity (sub f s p))
 unfolding sub belowInfinity lt
 sub-below f nan p h k g = absurd k
 sub-below f (inf false) p h k g = absurd k

@@ -7,7 +7,7 @@ use Prim.Native.Nat.{ℕ, zero, suc, _+_, _-_, _*_, _/_, _%_, _^_, _≤_, _<_}
 use native.Mathlib.Nat.{le-of-lt, le-of-eq, lt-of-not-le, add-zero, mul-one, mul-assoc, add-mul, one-mul, pow-succ', eq-or-lt-of-le, mod-lt, div-eq-of-lt, le-add-right, lt-trans, le-dest}
 use native.Mathlib.Decide.{decLe}
 use native.Mathlib.Omega.{arith}
-use lib.Dec.{eqb, lit<, lit≤, eqb·suc-zero}
+use lib.Dec.{eqb, lit≤, eqb·suc-zero}
 use lib.Pow.{pow-pos, high, low, split}
 use borrow.Author.Tests.{eq-eqb}
 use Rattle.binary64.specs.Root.{magnitude}
@@ -55,14 +55,14 @@ magnitude-is r k h (inl e) = elim (decLe (2 ^ 52) r) [
 magnitude-is r k h (inr g) = magnitude-significand r k g h
 
 -- every pattern is a significand at an exponent
-pub record Parts (p : ℕ) : Type 0 where
+record Parts (p : ℕ) : Type 0 where
   pub significand : ℕ
   pub exponent : ℕ
   pub below : significand < 2 ^ 53
   pub canonical : Canonical significand exponent
   pub pattern : p ≡ significand + exponent * 2 ^ 52
 
-pub parts : (p : ℕ) → Parts p
+parts : (p : ℕ) → Parts p
 parts p = go (p / 2 ^ 52) (split p 52) (mod-lt p (pow-pos 52))
   where
     go : (field : ℕ) → field * 2 ^ 52 + p % 2 ^ 52 ≡ p → p % 2 ^ 52 < 2 ^ 52 → Parts p
@@ -76,7 +76,7 @@ parts p = go (p / 2 ^ 52) (split p 52) (mod-lt p (pow-pos 52))
           pattern = omega arith;
         }
 
-pub magnitude-parts : (p : ℕ) (w : Parts p) → magnitude p ≡ w .significand * 2 ^ w .exponent
+magnitude-parts : (p : ℕ) (w : Parts p) → magnitude p ≡ w .significand * 2 ^ w .exponent
 magnitude-parts p w = ap magnitude (w .pattern) ∙ magnitude-is (w .significand) (w .exponent) (le-of-lt (w .below)) (w .canonical)
 
 -- ---- from a pattern to the next
@@ -85,7 +85,7 @@ canonical-suc : (r k : ℕ) → Canonical r k → Canonical (r + 1) k
 canonical-suc r k (inl e) = inl e
 canonical-suc r k (inr g) = inr (omega arith)
 
-pub magnitude-next : (p : ℕ) (w : Parts p) → magnitude (p + 1) ≡ (w .significand + 1) * 2 ^ w .exponent
+magnitude-next : (p : ℕ) (w : Parts p) → magnitude (p + 1) ≡ (w .significand + 1) * 2 ^ w .exponent
 magnitude-next p w =
     let r = w .significand in
     let k = w .exponent in
@@ -99,7 +99,7 @@ magnitude-before-power j =
     let at : 2 ^ 52 + suc j * 2 ^ 52 - 1 ≡ (2 ^ 53 - 1) + j * 2 ^ 52 = omega arith in
     ap magnitude at ∙ magnitude-is (2 ^ 53 - 1) j (lit≤ tt) (inr (lit≤ tt))
 
-pub magnitude-step : (p : ℕ) → magnitude p < magnitude (p + 1)
+magnitude-step : (p : ℕ) → magnitude p < magnitude (p + 1)
 magnitude-step p =
     let w = parts p in
     let u : ℕ = 2 ^ w .exponent in
@@ -107,7 +107,7 @@ magnitude-step p =
     let grown : (r + 1) * u ≡ r * u + u = add-mul r 1 u ∙ ap (λ (x : ℕ). r * u + x) (one-mul u) in
     omega (arith, magnitude-parts p w, magnitude-next p w, grown, pow-pos (w .exponent))
 
-pub magnitude-lt : (p d : ℕ) → magnitude p < magnitude (p + suc d)
+magnitude-lt : (p d : ℕ) → magnitude p < magnitude (p + suc d)
 magnitude-lt p zero = magnitude-step p
 magnitude-lt p (suc d) =
     let at : p + suc d + 1 ≡ p + suc (suc d) = omega arith in
@@ -119,6 +119,3 @@ magnitude-mono {p} {q} h = go (le-dest h .0) (le-dest h .1)
     go : (d : ℕ) → p + d ≡ q → magnitude p ≤ magnitude q
     go zero e = le-of-eq (ap magnitude (sym (add-zero p) ∙ e))
     go (suc d) e = le-of-lt (subst (λ (x : ℕ). magnitude p < magnitude x) e (magnitude-lt p d))
-
-pub magnitude-pos : {p : ℕ} → 0 < p → 0 < magnitude p
-magnitude-pos {p} h = omega (arith, magnitude-subnormal 1 (lit< tt), magnitude-mono h)

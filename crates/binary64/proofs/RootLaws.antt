@@ -2,18 +2,16 @@
 use mathlib.Core.Path.{_≡_, refl, sym, ap, _∙_, subst}
 use mathlib.Core.Bool.{Bool, true, false, not}
 use Prim.Native.Nat.{ℕ, zero, suc, _*_, _^_, _<_, zero-le}
-use native.Mathlib.Nat.{lt-of-le-of-lt, mul-pos, zero-mul, zero-lt-suc}
+use native.Mathlib.Nat.{lt-of-le-of-lt}
 use native.Mathlib.Omega.{arith}
 use lib.Dec.{T, ltb→lt, lt→ltb}
 use lib.Ieee.{Float, nan, inf, fin, binary64, up, down, lt, toBits, ofBits, fits}
-use lib.Ieee.Fits.{up-pos, nan-fits, inf-fits}
-use lib.Ieee.Bits.{ofBits-fits, toBits-ofBits, nanBits-is}
+use lib.Ieee.Bits.{toBits-ofBits, nanBits-is}
 use lib.Ieee.Exact.{HasValue}
 use lib.Ieee.Positive as ieee
-use lib.Ieee.Positive.{first-pos, positive-of-value}
+use lib.Ieee.Positive.{first-pos}
 use Rattle.binary64.specs.Kinds.{finite, positive}
 use Rattle.binary64.specs.Root.{magnitude, MidpointRule, rootBits, root}
-use Rattle.binary64.proofs.Magnitudes.{magnitude-pos}
 use Rattle.binary64.proofs.Midpoints.{root-range, root-rule}
 use Rattle.binary64.proofs.Values.{pattern-value, pattern-number, bits-range}
 
@@ -26,15 +24,6 @@ positive-finite (inf s) f h = absurd f
 positive-finite (fin true m e) f h = absurd h
 positive-finite (fin false m e) f h =
     lt→ltb 0 m (first-pos m (up e) (first-pos (m * up e) 1 (lt-of-le-of-lt zero-le (ltb→lt (0 * 1 * down e) (m * up e * 1) h))))
-
-pub positive-of-finite : (x : Float) → T (ieee.positive x) → T (positive x)
-unfolding positive lt
-positive-of-finite nan h = absurd h
-positive-of-finite (inf s) h = absurd h
-positive-of-finite (fin true m e) h = absurd h
-positive-of-finite (fin false m e) h =
-    lt→ltb (0 * 1 * down e) (m * up e * 1)
-    (subst (λ (y : ℕ). y < m * up e * 1) (sym (zero-mul (down e))) (mul-pos (mul-pos (ltb→lt 0 m h) (up-pos e)) (zero-lt-suc 0)))
 
 finite-of-value : (x : Float) (a c : ℕ) → HasValue x false a c → T (finite x)
 finite-of-value nan a c h = absurd h
@@ -53,7 +42,7 @@ root-is (fin false (suc m) e) h = refl
 
 module _ (x : Float) (f : T (fits binary64 x)) (g : T (finite x)) (h : T (positive x)) where
   -- its value, in units of 2 ^ -1074
-  pub root-value : HasValue (root x) false (magnitude (rootBits (toBits binary64 x))) (2 ^ 1074)
+  root-value : HasValue (root x) false (magnitude (rootBits (toBits binary64 x))) (2 ^ 1074)
   root-value =
       let p = positive-finite x g h in
       let r = bits-range x f p in
@@ -63,14 +52,8 @@ module _ (x : Float) (f : T (fits binary64 x)) (g : T (finite x)) (h : T (positi
   pub root-finite : T (finite (root x))
   root-finite = finite-of-value (root x) (magnitude (rootBits (toBits binary64 x))) (2 ^ 1074) root-value
 
-  pub root-positive : T (positive (root x))
-  root-positive =
-      let r = bits-range x f (positive-finite x g h) in
-      let b : 0 < rootBits (toBits binary64 x) = omega (arith, root-range (toBits binary64 x) (r .0) (r .1) .0) in
-      positive-of-finite (root x) (positive-of-value (root x) (magnitude (rootBits (toBits binary64 x))) (2 ^ 1074) root-value (magnitude-pos b))
-
   -- its pattern, and document 01's rule of the value and its root
-  pub root-bits : toBits binary64 (root x) ≡ rootBits (toBits binary64 x)
+  root-bits : toBits binary64 (root x) ≡ rootBits (toBits binary64 x)
   root-bits =
       let p = positive-finite x g h in
       let r = bits-range x f p in
@@ -83,12 +66,3 @@ module _ (x : Float) (f : T (fits binary64 x)) (g : T (finite x)) (h : T (positi
   root-midpoints =
       let r = bits-range x f (positive-finite x g h) in
       subst (λ (y : ℕ). MidpointRule (toBits binary64 x) y) (sym root-bits) (root-rule (toBits binary64 x) (r .0) (r .1))
-
-pub root-fits : (x : Float) → T (fits binary64 x) → T (fits binary64 (root x))
-unfolding root
-root-fits nan h = nan-fits binary64
-root-fits (inf true) h = nan-fits binary64
-root-fits (inf false) h = inf-fits binary64 false
-root-fits (fin s zero e) h = h
-root-fits (fin true (suc m) e) h = nan-fits binary64
-root-fits (fin false (suc m) e) h = ofBits-fits binary64 (rootBits (toBits binary64 (fin false (suc m) e)))

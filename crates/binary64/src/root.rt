@@ -1,5 +1,4 @@
 // The square root of a positive finite value, by its bit pattern: normalise, take the integer root digit by digit, round and assemble.
-ghost use mathlib.Core.Path.{_≡_};
 ghost use Prim.Native.Nat.{_*_, _^_, _<_};
 ghost use Rattle.binary64.specs.RootSteps.{Normalised, IntegerRoot, RootFound};
 

@@ -90,7 +90,7 @@ module _ (file : List ℕ) (present : ℕ → Bool) (at : ℕ) where
       }
 
   -- a fault decides for every longer run
-  pub values-fault : (place k count : ℕ) → k ≤ count → values file present k at ≡ fault place → values file present count at ≡ fault place
+  values-fault : (place k count : ℕ) → k ≤ count → values file present k at ≡ fault place → values file present count at ≡ fault place
   unfolding values
   values-fault place k zero h e = let z : 0 ≡ k = omega arith in ap (λ (j : ℕ). values file present j at) z ∙ e
   values-fault place k (suc n) h e =

@@ -94,7 +94,7 @@ solver-success layout n b m matrix rhs work h =
     h
 
 -- what the pipeline's solver returns, where it is accepted, is success
-pub pipeline-success :
+pipeline-success :
     (n b m : ℕ) (matrix rhs work : List Float) →
     T (accepted (blockedPipeline n b m matrix rhs work .solverResult)) → blockedPipeline n b m matrix rhs work .solverResult ≡ success
 unfolding blockedPipeline
@@ -140,7 +140,7 @@ digits-below (suc j) (suc (suc k)) n p h = go (ltb n 10) (λ e. digits-below j (
     go true f = omega arith
     go false f = omega (arith, f tt, length-append (digits j (n / 10)) ((48 + n % 10) ∷ []))
 
-pub decimal-below : (k n : ℕ) → 0 < k → n < 10 ^ k → length (decimal n) ≤ k
+decimal-below : (k n : ℕ) → 0 < k → n < 10 ^ k → length (decimal n) ≤ k
 unfolding decimal
 decimal-below k n p h = digits-below 20 k n p h
 
@@ -196,7 +196,7 @@ module _ (sizes : Sizes) (inside : InBounds sizes) where
 -- ---- a job that was solved
 
 -- an accepted result of a job is success
-pub job-success : (job : Job) → T (accepted (jobResult job)) → jobResult job ≡ success
+job-success : (job : Job) → T (accepted (jobResult job)) → jobResult job ≡ success
 unfolding jobResult
 job-success job h = first-success (rule7 (job .matrix) ∷ rule8 (job .rhs) ∷ jobEnded job .solverResult ∷ []) h
 

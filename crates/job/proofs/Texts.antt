@@ -25,7 +25,7 @@ module _ (memory : List ℕ) (at : ℕ) (text : List ℕ) (fits : at + length te
   length-front : length (take at memory ++ text) ≡ at + length text
   length-front = length-append (take at memory) text ∙ ap (λ (k : ℕ). k + length text) (length-take-le at memory (omega arith))
 
-  pub length-overwrite : length (overwrite at text memory) ≡ length memory
+  length-overwrite : length (overwrite at text memory) ≡ length memory
   length-overwrite =
       length-append (take at memory ++ text) (drop (at + length text) memory) ∙ ap (λ (k : ℕ). k + length (drop (at + length text) memory)) length-front
       ∙ ap (λ (k : ℕ). at + length text + k) (length-drop (at + length text) memory) ∙ omega arith
@@ -55,7 +55,7 @@ then {at} {mid} {end} {text} {more} {a} {b} {c} w v h =
 pub as-text : {at end : ℕ} {text text′ a b : List ℕ} → text ≡ text′ → Written at text a end b → Written at text′ a end b
 as-text {at} {end} {text} {text′} {a} {b} e w = subst (λ (t : List ℕ). Written at t a end b) e w
 
-pub length-written : {at end : ℕ} {text a b : List ℕ} → at + length text ≤ length a → Written at text a end b → length b ≡ length a
+length-written : {at end : ℕ} {text a b : List ℕ} → at + length text ≤ length a → Written at text a end b → length b ≡ length a
 length-written {at} {end} {text} {a} {b} h w = ap length (w .memory) ∙ length-overwrite a at text h
 
 pub nothing-written : (at : ℕ) (a : List ℕ) → Written at [] a at a
@@ -172,7 +172,7 @@ digits-last k n h = rw (lt-ltb n 10 h)
 
 -- a turn of the loop, and the store after it
 module _ (n left i : ℕ) (buffer : List ℕ) (u : DigitsUp n left i buffer) where
-  pub more-left : 10 ≤ left → 1 < i
+  more-left : 10 ≤ left → 1 < i
   more-left h = two-left left i h (u .short)
 
   stored : (d : ℕ) → drop (i - 1) (set buffer (i - 1) d) ≡ d ∷ drop i buffer

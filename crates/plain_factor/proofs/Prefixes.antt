@@ -62,7 +62,7 @@ module _ (n : ℕ) (m : List Float) (size : length m ≡ triangle n) where
   abbrev prefix : ℕ → List Float
   prefix = prefixOf n m
 
-  pub prefix-next : (j : ℕ) → j < n → prefix (suc j) ≡ storeColumn (packedPlace n) j (factorColumn (height n) a j (columns n a j)) (prefix j)
+  prefix-next : (j : ℕ) → j < n → prefix (suc j) ≡ storeColumn (packedPlace n) j (factorColumn (height n) a j (columns n a j)) (prefix j)
   unfolding store iterate
   prefix-next j h =
       ap (λ k. stored (packedPlace n) (columns n a (suc j)) k m) (shaped-columns n a (suc j) h .count)
@@ -112,16 +112,16 @@ module _ (n : ℕ) (m : List Float) (size : length m ≡ triangle n) where
         tabulate-same nan (λ r. quotient t t (root (pivot t t j)) j (j + 1 + r)) (λ r. quotient a l (root (pivot a l j)) j (j + 1 + r)) (n - j - 1)
         (λ r h. ap₂ (div binary64) (prefix-products (j + 1 + r) (omega arith) (omega arith)) (ap root prefix-pivot))
 
-    pub prefix-rules : columnRules (height n) t t j ≡ columnRules (height n) a l j
+    prefix-rules : columnRules (height n) t t j ≡ columnRules (height n) a l j
     unfolding columnRules
     prefix-rules = ap₂ (λ p b. firstRefusal (rule10 j (judged p) ∷ rule11 j b ∷ [])) prefix-pivot prefix-below
 
-    pub prefix-factor-column : factorColumn (height n) t j t ≡ factorColumn (height n) a j l
+    prefix-factor-column : factorColumn (height n) t j t ≡ factorColumn (height n) a j l
     unfolding factorColumn
     prefix-factor-column = ap₂ (λ p b. root p ∷ b) prefix-pivot prefix-below
 
   -- a turn of the column loop
-  pub prefix-judged :
+  prefix-judged :
       (j : ℕ) (s s′ : List Float) (r : CallResult) → j < n → s ≡ prefix j → Judged n j s r s′ →
       (r ≡ ruleOf n m j) × (s′ ≡ cond (accepted r) (prefix (suc j)) (prefix j))
   prefix-judged j s s′ r inside e g =
@@ -164,12 +164,12 @@ module _ (judge : ℕ → CallResult) (j : ℕ) (before : lowestRefusal judge j 
       ]
 
 module _ (n : ℕ) (m : List Float) (j : ℕ) (before : lowestRefusal (ruleOf n m) j ≡ success) where
-  pub verdict-next : accepted (ruleOf n m j) ≡ true → lowestRefusal (ruleOf n m) (suc j) ≡ success
+  verdict-next : accepted (ruleOf n m j) ≡ true → lowestRefusal (ruleOf n m) (suc j) ≡ success
   verdict-next t =
       ⊎-elim (λ e. lowest-next (ruleOf n m) j before e) (λ w. let z : true ≡ false = sym t ∙ w .0 in absurd (true≢false z))
       (rules-cases (height n) (held n m) (columns n (held n m) j) j)
 
-  pub verdict-here :
+  verdict-here :
       (s : List Float) → j < n → s ≡ prefixOf n m j → accepted (ruleOf n m j) ≡ false → Factored n m (ruleOf n m j) s
   unfolding columnsVerdict
   verdict-here s inside e f =

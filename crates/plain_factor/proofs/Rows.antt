@@ -24,12 +24,12 @@ pub row-place : (n i k : ℕ) → packedPlace n i k ≡ packedPlace n 0 k + i
 unfolding packedPlace
 row-place n i k = omega arith
 
-pub row-place-next : (n k : ℕ) → k + 1 ≤ n → packedPlace n 0 (k + 1) ≡ packedPlace n 0 k + (n - k - 1)
+row-place-next : (n k : ℕ) → k + 1 ≤ n → packedPlace n 0 (k + 1) ≡ packedPlace n 0 k + (n - k - 1)
 row-place-next n k h =
     omega (arith, packed-place-next-diagonal n k (omega arith), row-place n k k, row-place n (k + 1) (k + 1))
 
 -- in the memory, whether or not the row is one of the column
-pub row-place-lt : (n i k : ℕ) → k < n → i < n → packedPlace n 0 k + i < triangle n
+row-place-lt : (n i k : ℕ) → k < n → i < n → packedPlace n 0 k + i < triangle n
 row-place-lt n i k h inside =
     let last : Entry n (n - 1) k = record { lower = omega arith; inside = omega arith } in
     omega (arith, packed-bijection n .below (n - 1) k last, row-place n (n - 1) k)
@@ -54,7 +54,7 @@ module _ (n : ℕ) (m : List Float) (j : ℕ) where
   unfolding reduced
   reduced-none i = ap (λ p. getD m p nan) (sym (row-place n i j)) ∙ sym (minus-none _ _ _)
 
-  pub reduced-next :
+  reduced-next :
       (k i start : ℕ) (t : Float) → start ≡ packedPlace n 0 k → t ≡ reduced n m j k i →
       sub binary64 t (mul binary64 (getD m (start + i) nan) (getD m (start + j) nan)) ≡ reduced n m j (k + 1) i
   unfolding reduced

@@ -48,14 +48,14 @@ module _ (n j : ℕ) (m : List Float) where
       at : (r c : ℕ) → c ≤ r → r < n → getD m (packedPlace n r c) nan ≡ entry t r c
       at r c h h′ = sym (entry-load (packedPlace n) n m r c (record { lower = h; inside = h′ }))
 
-  pub pivot-held : j < n → reduced n m j j j ≡ pivot t t j
+  pivot-held : j < n → reduced n m j j j ≡ pivot t t j
   unfolding pivot
   pivot-held h = products-held j (omega arith) h
 
   module _ (w w′ : List Float) (d : Float) (finiteRows : Bool)
       (size : length w ≡ n) (size′ : length w′ ≡ n) (inside : j < n) (rows : Reduced n m j j j n w) (divided : Divided j d w w′ finiteRows)
       (root-is : d ≡ root (pivot t t j)) where
-    pub below-held : drop (j + 1) w′ ≡ below (height n) t j t
+    below-held : drop (j + 1) w′ ≡ below (height n) t j t
     unfolding below height quotient
     below-held =
         sym
@@ -66,7 +66,7 @@ module _ (n j : ℕ) (m : List Float) where
         ∙ divided .rows (j + 1 + r) (omega arith) (omega arith)
         ∙ ap₂ (div binary64) (rows (j + 1 + r) (omega arith) (omega arith) ∙ products-held (j + 1 + r) (omega arith) (omega arith)) root-is))
 
-    pub column-held : drop j w′ ≡ factorColumn (height n) t j t
+    column-held : drop j w′ ≡ factorColumn (height n) t j t
     unfolding factorColumn
     column-held =
         drop-cons w′ j nan (omega arith)

@@ -5,18 +5,11 @@ use Prim.Native.Nat.{ℕ, zero, suc, _+_, _-_, _*_, _/_, _≤_, _<_, min}
 use native.Mathlib.Nat.{add-zero, zero-add, mul-comm, mul-div-le, lt-mul-div-succ}
 use native.Mathlib.Omega.{arith}
 use lib.Arith.{digits-div}
-use Rattle.shape.specs.Places.{triangle, blockOf, blockStart, width, placeInBlock, blockedPlace}
+use Rattle.shape.specs.Places.{blockOf, blockStart, width, placeInBlock, blockedPlace}
 use Rattle.shape.specs.Layouts.{Entry}
 use Rattle.shape.proofs.Parts.{starts, starts-zero}
 use Rattle.shape.proofs.Columns.{block-start-zero, block-start-split}
-use Rattle.shape.proofs.Rows.{
-  rowLength,
-  block-start-values,
-  block-start-rows,
-  place-in-block-row,
-  place-in-block-next-column,
-  place-in-block-next-row,
-}
+use Rattle.shape.proofs.Rows.{rowLength, block-start-rows, place-in-block-row}
 
 -- ---- first columns
 
@@ -67,22 +60,16 @@ pub width-full : (n b c : ℕ) → b ≤ n - c → width n b c ≡ b
 unfolding width
 width-full n b c h = omega arith
 
--- the last block column may be narrower, and has no rows under its diagonal block
+-- the last block column may be narrower
 pub width-last : (n b c : ℕ) → n - c ≤ b → width n b c ≡ n - c
 unfolding width
 width-last n b c h = omega arith
-
-pub width-last-row : (n b c r : ℕ) → n - c ≤ b → r < n - c → r < width n b c
-width-last-row n b c r h row = omega (arith, width-last n b c h)
 
 pub column-in-width : (n b j : ℕ) → 0 < b → j < n → j - blockOf b j < width n b (blockOf b j)
 unfolding width
 column-in-width n b j hb h = omega (arith, block-of-le b j, block-of-lt b j hb)
 
 -- ---- values
-
-pub block-column-values : (n c w : ℕ) → c + w ≤ n → blockStart n (c + w) ≡ blockStart n c + (triangle w + (n - c - w) * w)
-block-column-values n c w h = omega (arith, block-start-split n c w h, block-start-values (n - c) w (omega arith))
 
 -- the entries of row r of block column k, and of the whole block column
 abbrev pub blockRow : ℕ → ℕ → ℕ → ℕ → ℕ
@@ -138,7 +125,7 @@ blocked-place-diagonal n b c h first =
     omega (arith, place-in-block-row w 0 0, starts-zero (rowLength w))
 
 -- in the first block column
-pub blocked-place-first : (n b i j : ℕ) → j < b → b ≤ n → blockedPlace n b i j ≡ placeInBlock b i j
+blocked-place-first : (n b i j : ℕ) → j < b → b ≤ n → blockedPlace n b i j ≡ placeInBlock b i j
 blocked-place-first n b i j h full =
     let first : blockOf b 0 ≡ 0 = omega (arith, block-of-le b 0) in
     let whole : width n b 0 ≡ b = width-full n b 0 (omega arith) in
@@ -154,19 +141,3 @@ blocked-place-part n b i j hb e =
     let c : ℕ = blockOf b j in
     rw (blocked-place-first (n - c) (width n b c) (i - c) (j - c) (column-in-width n b j hb (omega arith)) (width-le n b c))
     (blocked-place-block n b i j)
-
-pub blocked-place-next-column : (n b i j : ℕ)
-    → blockOf b (j + 1) ≡ blockOf b j
-    → blockedPlace n b i (j + 1) ≡ blockedPlace n b i j + 1
-blocked-place-next-column n b i j same =
-    let next : j + 1 - blockOf b j ≡ j - blockOf b j + 1 = omega (arith, block-of-le b j) in
-    rw (blocked-place-block n b i (j + 1), same, next, place-in-block-next-column)
-    (omega (arith, blocked-place-block n b i j))
-
-pub blocked-place-next-row : (n b i j : ℕ)
-    → j ≤ i
-    → blockedPlace n b (i + 1) j ≡ blockedPlace n b i j + rowLength (width n b (blockOf b j)) (i - blockOf b j)
-blocked-place-next-row n b i j h =
-    let next : i + 1 - blockOf b j ≡ i - blockOf b j + 1 = omega (arith, block-of-le b j) in
-    rw (blocked-place-block n b (i + 1) j, next, place-in-block-next-row)
-    (omega (arith, blocked-place-block n b i j))

@@ -17,7 +17,7 @@ rowLength w r = min (r + 1) w
 
 -- ---- where a row starts
 
-pub row-start-inside : (w r : ℕ) → r ≤ w → starts (rowLength w) r ≡ triangle r
+row-start-inside : (w r : ℕ) → r ≤ w → starts (rowLength w) r ≡ triangle r
 unfolding starts
 row-start-inside w zero h = omega (arith, triangle-exact 0)
 row-start-inside w (suc r) h =
@@ -33,7 +33,7 @@ row-start-under w r h =
     let row : w + (r - w) ≡ r = omega arith in
     rw row at (rows-under w (r - w))
 
-pub row-start-le : (w r : ℕ) → starts (rowLength w) r ≤ triangle r
+row-start-le : (w r : ℕ) → starts (rowLength w) r ≤ triangle r
 unfolding starts
 row-start-le w zero = omega arith
 row-start-le w (suc r) = omega (arith, row-start-le w r, ap triangle (add-one r), triangle-next r)
@@ -43,7 +43,7 @@ row-start-le w (suc r) = omega (arith, row-start-le w r, ap triangle (add-one r)
 block-values : (w m : ℕ) → blockStart (w + m) w ≡ triangle w + m * w
 block-values w m = omega (arith, block-start-double (w + m) w (omega arith), triangle-exact w)
 
-pub block-start-values : (h w : ℕ) → w ≤ h → blockStart h w ≡ triangle w + (h - w) * w
+block-start-values : (h w : ℕ) → w ≤ h → blockStart h w ≡ triangle w + (h - w) * w
 block-start-values h w full =
     let order : w + (h - w) ≡ h = omega arith in
     rw order at (block-values w (h - w))

@@ -20,7 +20,7 @@ module _ (layout : Layout) (n b m : ℕ) (a rhs w : List Float) (checks : CallRe
   checks-refused f = rw (ap accepted (sym e) ∙ f) (record { result = e; rhs = refl; work = refl })
 
   module _ (t : accepted checks ≡ true) where
-    pub checks-accepted : SolverAccepted layout n b m a rhs (length w)
+    checks-accepted : SolverAccepted layout n b m a rhs (length w)
     checks-accepted = solver-accepted layout n b m a rhs (length w) (rw (ap accepted (sym e) ∙ t) tt)
 
     pub work-fits : n ≤ length w

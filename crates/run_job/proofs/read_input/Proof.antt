@@ -2,8 +2,7 @@
 use Prim.Native.Nat.{_≤_, _-_}
 use mathlib.Core.Path.{_≡_}
 use borrow.Author.Needs.{needs}
-use native.Mathlib.Omega.{arith}
-use lib.ListN.{length, length-append, length-take, length-drop}
+use lib.ListN.{length}
 use Rattle.run_job.proofs.read_input.Statement.{statement}
 use Rattle.run_job.proofs.read_input.Tie as tie
 
