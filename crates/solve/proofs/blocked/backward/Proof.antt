@@ -5,7 +5,7 @@ use mathlib.Core.Path.{_≡_, refl, sym, ap, _∙_}
 use mathlib.Core.Logic.{_⊎_, inl, inr}
 use denote.Ref.{now}
 use lib.ListN.{length-take, length-drop}
-use Rattle.shape.specs.Places.{blockedPlace, blockOf, blockStart, width}
+use Rattle.shape.specs.Places.{triangle, blockedPlace, blockOf, blockStart, width}
 use Rattle.shape.proofs.Bounds.{block-start-le, triangle-le}
 use Rattle.shape.proofs.Blocks.{block-of-le, block-of-block, width-pos, width-le}
 use Rattle.calls.specs.Triangles.{height, load}
@@ -33,80 +33,48 @@ sub-block-of c = omega arith
 block-of-requires : tie.Need-block-of-requires Inv-loop μ-loop
 block-of-requires c κs = omega arith
 
+-- the block column begins before c, and its values lie in the matrix
+first-lt : (c : tie.After-block-of Inv-loop μ-loop) → c .block-of .result < c .before .before .loop .c
+first-lt c = omega (arith, block-of-le (c .before .before .before .before .before .args .shape .block) (c .before .before .loop .c - 1))
+
+start-le : (c : tie.After-block-start Inv-loop μ-loop)
+    → let n = c .before .before .before .before .before .before .args .shape .order in
+    (c .block-start .result ≤ triangle n) × (triangle n ≤ 8002000)
+start-le c =
+    let n = c .before .before .before .before .before .before .args .shape .order in (
+      omega (arith, block-start-le n (c .before .block-of .result) (omega (arith, first-lt (c .before)))),
+      triangle-le n (omega arith),
+    )
+
 block-start-requires : tie.Need-block-start-requires Inv-loop μ-loop
-block-start-requires c κs =
-    let a = c .before .before .before .before .before .args in
-    (omega arith, omega (arith, c .block-of .ensures, block-of-le (a .shape .block) (c .before .before .loop .c - 1)))
+block-start-requires c κs = (omega arith, omega (arith, first-lt c))
 
 block-width-requires : tie.Need-block-width-requires Inv-loop μ-loop
-block-width-requires c κs =
-    let a = c .before .before .before .before .before .before .args in
-    let l = c .before .before .before .loop in
-    omega (arith, c .before .block-of .ensures, block-of-le (a .shape .block) (l .c - 1))
+block-width-requires c κs = omega (arith, first-lt (c .before))
 
 sub-backward-block : tie.Need-sub-backward-block Inv-loop μ-loop
-sub-backward-block c =
-    let a = c .before .before .before .before .before .before .before .args in
-    let l = c .before .before .before .before .loop in
-    omega (arith, c .before .before .block-of .ensures, block-of-le (a .shape .block) (l .c - 1))
+sub-backward-block c = omega (arith, first-lt (c .before .before))
 
 mul-backward-block : tie.Need-mul-backward-block Inv-loop μ-loop
-mul-backward-block c =
-    let a = c .before .before .before .before .before .before .before .args in
-    let l = c .before .before .before .before .loop in
-    let block-of = c .before .before .block-of in
-    omega (
-      arith,
-      c .before .block-start .ensures,
-      block-start-le (a .shape .order) (block-of .result)
-          (omega (arith, block-of .ensures, block-of-le (a .shape .block) (l .c - 1))),
-      triangle-le (a .shape .order) (omega arith),
-    )
+mul-backward-block c = omega (arith, start-le (c .before))
 
 sub-backward-block-2 : tie.Need-sub-backward-block-2 Inv-loop μ-loop
-sub-backward-block-2 c =
-    let a = c .before .before .before .before .before .before .before .args in
-    let l = c .before .before .before .before .loop in
-    let block-of = c .before .before .block-of in
-    omega (
-      arith,
-      c .before .block-start .ensures,
-      block-start-le (a .shape .order) (block-of .result)
-          (omega (arith, block-of .ensures, block-of-le (a .shape .block) (l .c - 1))),
-    )
+sub-backward-block-2 c = omega (arith, start-le (c .before))
 
 part-backward-block-start : tie.Need-part-backward-block-start Inv-loop μ-loop
-part-backward-block-start c =
-    let a = c .before .before .before .before .before .before .before .args in
-    let l = c .before .before .before .before .loop in
-    let block-of = c .before .before .block-of in
-    omega (
-      arith,
-      c .before .block-start .ensures,
-      block-start-le (a .shape .order) (block-of .result)
-          (omega (arith, block-of .ensures, block-of-le (a .shape .block) (l .c - 1))),
-    )
+part-backward-block-start c = omega (arith, start-le (c .before))
 
 part-backward-block-end : tie.Need-part-backward-block-end Inv-loop μ-loop
 part-backward-block-end c = omega arith
 
 mul-backward-block-2 : tie.Need-mul-backward-block-2 Inv-loop μ-loop
-mul-backward-block-2 c =
-    let a = c .before .before .before .before .before .before .before .before .args in
-    let l = c .before .before .before .before .before .loop in
-    omega (arith, c .before .before .before .block-of .ensures, block-of-le (a .shape .block) (l .c - 1))
+mul-backward-block-2 c = omega (arith, first-lt (c .before .before .before))
 
 sub-backward-block-3 : tie.Need-sub-backward-block-3 Inv-loop μ-loop
-sub-backward-block-3 c =
-    let a = c .before .before .before .before .before .before .before .before .args in
-    let l = c .before .before .before .before .before .loop in
-    omega (arith, c .before .before .before .block-of .ensures, block-of-le (a .shape .block) (l .c - 1), l .inv .3 .size)
+sub-backward-block-3 c = omega (arith, first-lt (c .before .before .before))
 
 part-backward-block-start-2 : tie.Need-part-backward-block-start-2 Inv-loop μ-loop
-part-backward-block-start-2 c =
-    let a = c .before .before .before .before .before .before .before .before .args in
-    let l = c .before .before .before .before .before .loop in
-    omega (arith, c .before .before .before .block-of .ensures, block-of-le (a .shape .block) (l .c - 1), l .inv .3 .size)
+part-backward-block-start-2 c = omega (arith, first-lt (c .before .before .before))
 
 part-backward-block-end-2 : tie.Need-part-backward-block-end-2 Inv-loop μ-loop
 part-backward-block-end-2 c = omega arith
@@ -120,7 +88,7 @@ backward-block-requires c κs =
     let n = a .shape .order in
     let b = a .shape .block in
     let f = block-of .result in
-    let low : f < l .c = omega (arith, block-of .ensures, block-of-le b (l .c - 1)) in
+    let low = first-lt (c .before .before .before .before) in
     let room = block-room n f (width n b f) (omega (arith, width-le n b f)) in
     record {
       order = omega arith;
@@ -132,10 +100,7 @@ backward-block-requires c κs =
     }
 
 loop-less : tie.Need-loop-less Inv-loop μ-loop
-loop-less c =
-    let a = c .before .before .before .before .before .before .before .before .before .before .before .before .args in
-    let l = c .before .before .before .before .before .before .before .before .before .loop in
-    omega (arith, c .before .before .before .before .before .before .before .block-of .ensures, block-of-le (a .shape .block) (l .c - 1))
+loop-less c = omega (arith, first-lt (c .before .before .before .before .before .before .before))
 
 loop-again : tie.Need-loop-again Inv-loop μ-loop
 loop-again c =
@@ -148,7 +113,7 @@ loop-again c =
     let n = a .shape .order in
     let b = a .shape .block in
     let f = block-of .result in
-    let low : f < l .c = omega (arith, block-of .ensures, block-of-le b (l .c - 1)) in
+    let low = first-lt (c .before .before .before .before .before .before .before) in
     let whole : f + block-width .result ≡ l .c =
     ap (λ w. f + w) (block-width .ensures) ∙ ap (λ q. q + width n b q) (block-of .ensures) ∙ last-block n b (l .c) (omega arith) (omega arith)
     (omega arith) (l .inv .2) in

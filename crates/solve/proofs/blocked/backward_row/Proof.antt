@@ -1,10 +1,11 @@
 -- `solve::blocked::backward_row` meets its contract. Assumes nothing.
-use Prim.Native.Nat.{_-_}
+use Prim.Native.Nat.{_+_, _-_, _≤_}
 use native.Mathlib.Omega.{arith}
 use borrow.Author.Needs.{needs}
 use denote.Ref.{now}
 use lib.ListN.{getD}
 use lib.Ieee.{nan}
+use Rattle.shape.specs.Places.{blockStart}
 use Rattle.solve.proofs.BlockPlaces.{room-part, values-le}
 use Rattle.solve.proofs.BlockColumns.{row-under}
 use Rattle.solve.proofs.blocked.backward_row.Statement.{statement}
@@ -13,14 +14,21 @@ use Rattle.solve.proofs.blocked.backward_row.Tie as tie
 place-in-block-requires : tie.Need-place-in-block-requires
 place-in-block-requires c κs = search needs
 
+-- the part of the row lies in the block column
+inside : (c : tie.After-place-in-block)
+    → let a = c .before .before .before .args in
+    c .place-in-block .result + (a .w - a .from) ≤ blockStart (a .h) (a .w)
+inside c =
+    let a = c .before .before .before .args in
+    omega (arith, room-part (a .h) (a .w) (a .r) (a .from) (a .w - a .from) (omega arith) (omega arith) (omega arith) (omega arith) (omega arith))
+
 sub-end : tie.Need-sub-end
 sub-end c = search needs
 
 add-end : tie.Need-add-end
 add-end c =
     let a = c .before .before .before .args in
-    let room = room-part (a .h) (a .w) (a .r) (a .from) (a .w - a .from) (omega arith) (omega arith) (omega arith) (omega arith) (omega arith) in
-    omega (arith, c .place-in-block .ensures, room, values-le (a .h) (a .w) (omega arith) (omega arith))
+    omega (arith, inside c, values-le (a .h) (a .w) (omega arith) (omega arith))
 
 mul-x : tie.Need-mul-x
 mul-x c = search needs
@@ -41,10 +49,7 @@ part-subtract-multiple-end : tie.Need-part-subtract-multiple-end
 part-subtract-multiple-end c = search needs
 
 mul-subtract-multiple-2 : tie.Need-mul-subtract-multiple-2
-mul-subtract-multiple-2 c =
-    let a = c .before .before .before .before .before .args in
-    let room = room-part (a .h) (a .w) (a .r) (a .from) (a .w - a .from) (omega arith) (omega arith) (omega arith) (omega arith) (omega arith) in
-    omega (arith, c .before .before .place-in-block .ensures, room)
+mul-subtract-multiple-2 c = omega (arith, inside (c .before .before))
 
 sub-subtract-multiple-2 : tie.Need-sub-subtract-multiple-2
 sub-subtract-multiple-2 c = search needs
@@ -53,10 +58,7 @@ part-subtract-multiple-start-2 : tie.Need-part-subtract-multiple-start-2
 part-subtract-multiple-start-2 c = search needs
 
 part-subtract-multiple-end-2 : tie.Need-part-subtract-multiple-end-2
-part-subtract-multiple-end-2 c =
-    let a = c .before .before .before .before .before .args in
-    let room = room-part (a .h) (a .w) (a .r) (a .from) (a .w - a .from) (omega arith) (omega arith) (omega arith) (omega arith) (omega arith) in
-    omega (arith, c .before .before .place-in-block .ensures, room)
+part-subtract-multiple-end-2 c = omega (arith, inside (c .before .before))
 
 subtract-multiple-requires : tie.Need-subtract-multiple-requires
 subtract-multiple-requires c κs = search needs

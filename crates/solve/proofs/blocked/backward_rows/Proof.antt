@@ -31,11 +31,11 @@ backward-tile-requires c κs =
     let l = c .before .before .before .loop in (
       rows-beside (a .h) (a .w) (now (a .part)) (now (a .work)) (l .work) (c .before .before .before .before .before .before .pre)
           (l .inv .2 .size),
-      omega (arith, c .before .tile-start .ensures),
+      omega arith,
     )
 
 loop-less : tie.Need-loop-less Inv-loop μ-loop
-loop-less c = omega (arith, c .before .before .before .before .tile-start .ensures)
+loop-less c = omega arith
 
 loop-again : tie.Need-loop-again Inv-loop μ-loop
 loop-again c =
@@ -43,12 +43,12 @@ loop-again c =
     let l = c .before .before .before .before .before .before .loop in
     let first = c .before .before .before .before .tile-start .result in
     let here : a .h - (a .h - l .end) ≡ l .end = omega arith in
-    let all : a .h - l .end + (l .end - first) ≡ a .h - first = omega (arith, c .before .before .before .before .tile-start .ensures) in (
+    let all : a .h - l .end + (l .end - first) ≡ a .h - first = omega arith in (
       c .before .before .before .before .tile-start .ensures .0,
-      omega (arith, c .before .before .before .before .tile-start .ensures),
+      omega arith,
       rw all at (columns-add (entriesAt (placeInBlock (a .w)) (now (a .part))) (a .h) (a .h - l .end) (l .end - first) 0 (a .w) (now (a .work))
           (l .work) (c .before .before .backward-tile .last .1 .1 .1 .1 .1 .0)
-          (omega (arith, c .before .before .before .before .tile-start .ensures)) (l .inv .2) (rw here (c .before .before .backward-tile .ensures))),
+          (omega arith) (l .inv .2) (rw here (c .before .before .backward-tile .ensures))),
     )
 
 same-length : tie.Need-same-length Inv-loop μ-loop
@@ -56,7 +56,7 @@ same-length c = c .before .loop .inv .2 .size
 
 returns : tie.Need-returns Inv-loop μ-loop
 returns c =
-    let all : c .before .loop .end ≡ c .before .before .before .before .args .w = omega (arith, c .loop-test .left, c .before .loop .inv .0) in
+    let all : c .before .loop .end ≡ c .before .before .before .before .args .w = omega arith in
     rw all at (c .before .loop .inv .2)
 
 pub backward-rows-spec : {M : Type 1} → statement M

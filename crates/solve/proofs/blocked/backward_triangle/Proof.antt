@@ -1,11 +1,11 @@
 -- `solve::blocked::backward_triangle` meets its contract. The invariant of its loop: the rows from r on are finished, their products are taken from
 -- those before r, and `at` is where row r begins. Assumes nothing.
-use Prim.Native.Nat.{_≤_}
+use Prim.Native.Nat.{_+_, _-_, _≤_, _<_}
 use native.Mathlib.Omega.{arith}
 use mathlib.Core.Path.{_≡_, refl}
 use denote.Ref.{now}
 use lib.ListN.{length-set, length-take, length-drop}
-use Rattle.shape.specs.Places.{placeInBlock}
+use Rattle.shape.specs.Places.{blockStart, placeInBlock}
 use Rattle.solve.specs.Substitution.{entriesAt}
 use Rattle.solve.proofs.BlockPlaces.{before-inside}
 use Rattle.solve.proofs.BlockColumns.{row-inside-up}
@@ -27,20 +27,25 @@ loop-holds c =
     let a = c .before .before .before .args in
     (omega arith, c .place-in-block .ensures, taken-none _ (a .w) (now (a .work)))
 
-sub-at : tie.Need-sub-at Inv-loop μ-loop
-sub-at c =
+-- in a turn the row before lies in the block column
+inside : (c : tie.In-loop Inv-loop μ-loop)
+    → let a = c .before .before .before .before .before .args in
+    let l = c .before .loop in
+    (l .r ≤ l .at) × (l .at - l .r + (l .r - 1) < blockStart (a .h) (a .w))
+inside c =
     let a = c .before .before .before .before .before .args in
     let l = c .before .loop in
-    omega (arith, before-inside (a .h) (a .w) (l .r) (l .at) (omega arith) (omega arith) (omega arith) (l .inv .1))
+    let row = before-inside (a .h) (a .w) (l .r) (l .at) (omega arith) (omega arith) (omega arith) (l .inv .1) in
+    (row .0, row .2)
+
+sub-at : tie.Need-sub-at Inv-loop μ-loop
+sub-at c = omega (arith, inside c)
 
 sub-r : tie.Need-sub-r Inv-loop μ-loop
 sub-r c = omega arith
 
 add-end : tie.Need-add-end Inv-loop μ-loop
-add-end c =
-    let a = c .before .before .before .before .before .args in
-    let l = c .before .loop in
-    omega (arith, before-inside (a .h) (a .w) (l .r) (l .at) (omega arith) (omega arith) (omega arith) (l .inv .1))
+add-end c = omega (arith, inside c)
 
 mul-x : tie.Need-mul-x Inv-loop μ-loop
 mul-x c = omega arith
@@ -49,16 +54,10 @@ slice-read-x : tie.Need-slice-read-x Inv-loop μ-loop
 slice-read-x c = omega arith
 
 mul-x-2 : tie.Need-mul-x-2 Inv-loop μ-loop
-mul-x-2 c =
-    let a = c .before .before .before .before .before .before .args in
-    let l = c .before .before .loop in
-    omega (arith, before-inside (a .h) (a .w) (l .r) (l .at) (omega arith) (omega arith) (omega arith) (l .inv .1))
+mul-x-2 c = omega (arith, inside (c .before))
 
 shared-slice-read-x : tie.Need-shared-slice-read-x Inv-loop μ-loop
-shared-slice-read-x c =
-    let a = c .before .before .before .before .before .before .before .args in
-    let l = c .before .before .before .loop in
-    omega (arith, before-inside (a .h) (a .w) (l .r) (l .at) (omega arith) (omega arith) (omega arith) (l .inv .1))
+shared-slice-read-x c = omega (arith, inside (c .before .before))
 
 mul-work : tie.Need-mul-work Inv-loop μ-loop
 mul-work c = omega arith
@@ -74,10 +73,7 @@ slice-aggregate-subtract-multiple : tie.Need-slice-aggregate-subtract-multiple I
 slice-aggregate-subtract-multiple c = simp (length-take, length-set) (omega arith)
 
 mul-subtract-multiple : tie.Need-mul-subtract-multiple Inv-loop μ-loop
-mul-subtract-multiple c =
-    let a = c .before .before .before .before .before .before .before .before .args in
-    let l = c .before .before .before .before .loop in
-    omega (arith, before-inside (a .h) (a .w) (l .r) (l .at) (omega arith) (omega arith) (omega arith) (l .inv .1))
+mul-subtract-multiple c = omega (arith, inside (c .before .before .before))
 
 sub-subtract-multiple : tie.Need-sub-subtract-multiple Inv-loop μ-loop
 sub-subtract-multiple c = omega arith
@@ -86,17 +82,10 @@ part-subtract-multiple-start : tie.Need-part-subtract-multiple-start Inv-loop μ
 part-subtract-multiple-start c = omega arith
 
 part-subtract-multiple-end : tie.Need-part-subtract-multiple-end Inv-loop μ-loop
-part-subtract-multiple-end c =
-    let a = c .before .before .before .before .before .before .before .before .args in
-    let l = c .before .before .before .before .loop in
-    omega (arith, before-inside (a .h) (a .w) (l .r) (l .at) (omega arith) (omega arith) (omega arith) (l .inv .1))
+part-subtract-multiple-end c = omega (arith, inside (c .before .before .before))
 
 subtract-multiple-requires : tie.Need-subtract-multiple-requires Inv-loop μ-loop
-subtract-multiple-requires c κs =
-    let a = c .before .before .before .before .before .before .before .before .before .args in
-    let l = c .before .before .before .before .before .loop in
-    simp (length-take, length-drop, length-set)
-    (omega (arith, before-inside (a .h) (a .w) (l .r) (l .at) (omega arith) (omega arith) (omega arith) (l .inv .1)))
+subtract-multiple-requires c κs = simp (length-take, length-drop, length-set) (omega (arith, inside (c .before .before .before .before)))
 
 loop-less : tie.Need-loop-less Inv-loop μ-loop
 loop-less c = omega arith

@@ -4,7 +4,7 @@ use native.Mathlib.Omega.{arith}
 use mathlib.Core.Path.{_≡_, refl, sym, ap, _∙_}
 use denote.Ref.{now}
 use lib.ListN.{length-take, length-drop}
-use Rattle.shape.specs.Places.{blockedPlace, blockOf, blockStart, width}
+use Rattle.shape.specs.Places.{triangle, blockedPlace, blockOf, blockStart, width}
 use Rattle.shape.proofs.Bounds.{block-start-le, triangle-le}
 use Rattle.shape.proofs.Blocks.{block-of-le, width-pos, width-le}
 use Rattle.calls.specs.Triangles.{height, load}
@@ -40,23 +40,22 @@ block-width-requires c κs = omega arith
 sub-forward-block : tie.Need-sub-forward-block Inv-loop μ-loop
 sub-forward-block c = omega arith
 
+-- the block column's values lie in the matrix
+start-le : (c : tie.After-block-start Inv-loop μ-loop)
+    → let n = c .before .before .before .before .before .args .shape .order in
+    (c .block-start .result ≤ triangle n) × (triangle n ≤ 8002000)
+start-le c =
+    let n = c .before .before .before .before .before .args .shape .order in
+    (omega (arith, block-start-le n (c .before .before .loop .c) (omega arith)), triangle-le n (omega arith))
+
 mul-forward-block : tie.Need-mul-forward-block Inv-loop μ-loop
-mul-forward-block c =
-    let a = c .before .before .before .before .before .before .args in
-    let l = c .before .before .before .loop in
-    omega (arith, c .before .block-start .ensures, block-start-le (a .shape .order) (l .c) (omega arith), triangle-le (a .shape .order) (omega arith))
+mul-forward-block c = omega (arith, start-le (c .before))
 
 sub-forward-block-2 : tie.Need-sub-forward-block-2 Inv-loop μ-loop
-sub-forward-block-2 c =
-    let a = c .before .before .before .before .before .before .args in
-    let l = c .before .before .before .loop in
-    omega (arith, c .before .block-start .ensures, block-start-le (a .shape .order) (l .c) (omega arith))
+sub-forward-block-2 c = omega (arith, start-le (c .before))
 
 part-forward-block-start : tie.Need-part-forward-block-start Inv-loop μ-loop
-part-forward-block-start c =
-    let a = c .before .before .before .before .before .before .args in
-    let l = c .before .before .before .loop in
-    omega (arith, c .before .block-start .ensures, block-start-le (a .shape .order) (l .c) (omega arith))
+part-forward-block-start c = omega (arith, start-le (c .before))
 
 part-forward-block-end : tie.Need-part-forward-block-end Inv-loop μ-loop
 part-forward-block-end c = omega arith
@@ -94,19 +93,13 @@ add-c : tie.Need-add-c Inv-loop μ-loop
 add-c c =
     let a = c .before .before .before .before .before .before .before .before .before .before .before .args in
     let l = c .before .before .before .before .before .before .before .before .loop in
-    omega (arith, c .before .before .before .before .before .block-width .ensures, width-le (a .shape .order) (a .shape .block) (l .c))
+    omega (arith, width-le (a .shape .order) (a .shape .block) (l .c))
 
 loop-less : tie.Need-loop-less Inv-loop μ-loop
 loop-less c =
-    let a = c .before .before .before .before .before .before .before .before .before .before .before .args in
+    let s = c .before .before .before .before .before .before .before .before .before .before .before .args .shape in
     let l = c .before .before .before .before .before .before .before .before .loop in
-    omega (
-      arith,
-      c .before .before .before .before .before .block-width .ensures,
-      width-le (a .shape .order) (a .shape .block) (l .c),
-      width-pos
-          (a .shape .order) (a .shape .block) (l .c) (omega arith) (omega arith),
-    )
+    omega (arith, width-le (s .order) (s .block) (l .c), width-pos (s .order) (s .block) (l .c) (omega arith) (omega arith))
 
 loop-again : tie.Need-loop-again Inv-loop μ-loop
 loop-again c =
@@ -117,7 +110,7 @@ loop-again c =
     let forward-block = c .before .before .forward-block in
     let n = a .shape .order in
     let b = a .shape .block in
-    let fits : l .c + block-width .result ≤ n = omega (arith, block-width .ensures, width-le n b (l .c)) in
+    let fits : l .c + block-width .result ≤ n = omega (arith, width-le n b (l .c)) in
     let first = l .inv .2 (omega arith) in (
       fits,
       l .inv .1,

@@ -1,11 +1,11 @@
 -- `solve::blocked::forward_triangle` meets its contract. The invariant of its loop: the rows before r are finished; row r begins at `at`. Assumes
 -- nothing.
-use Prim.Native.Nat.{_-_, _≤_}
+use Prim.Native.Nat.{_+_, _-_, _≤_, _<_}
 use native.Mathlib.Omega.{arith}
 use mathlib.Core.Path.{_≡_}
 use denote.Ref.{now}
 use lib.ListN.{length-take}
-use Rattle.shape.specs.Places.{placeInBlock}
+use Rattle.shape.specs.Places.{blockStart, placeInBlock}
 use Rattle.shape.proofs.Rows.{place-in-block-next-row-inside}
 use Rattle.solve.specs.Substitution.{entriesAt, TriangleForward}
 use Rattle.solve.proofs.Triangles.{forward-none}
@@ -36,29 +36,25 @@ slice-reshare-prefix-subtract-rising c = omega arith
 slice-aggregate-subtract-rising : tie.Need-slice-aggregate-subtract-rising Inv-loop μ-loop
 slice-aggregate-subtract-rising c = simp length-take (omega arith)
 
+-- in a turn the row lies in the block column
+inside : (c : tie.In-loop Inv-loop μ-loop)
+    → let a = c .before .before .before .before .args in
+    c .before .loop .at + c .before .loop .r < blockStart (a .h) (a .w)
+inside c =
+    let a = c .before .before .before .before .args in
+    omega (arith, room-inside (a .h) (a .w) (c .before .loop .r) (omega arith) (omega arith))
+
 subtract-rising-requires : tie.Need-subtract-rising-requires Inv-loop μ-loop
-subtract-rising-requires c κs =
-    let a = c .before .before .before .before .before .before .args in
-    let l = c .before .before .before .loop in
-    simp length-take (omega (arith, room-inside (a .h) (a .w) (l .r) (omega arith) (omega arith)))
+subtract-rising-requires c κs = simp length-take (omega (arith, inside (c .before .before)))
 
 add-work : tie.Need-add-work Inv-loop μ-loop
-add-work c =
-    let a = c .before .before .before .before .before .before .before .args in
-    let l = c .before .before .before .before .loop in
-    omega (arith, room-inside (a .h) (a .w) (l .r) (omega arith) (omega arith))
+add-work c = omega (arith, inside (c .before .before .before))
 
 mul-work : tie.Need-mul-work Inv-loop μ-loop
-mul-work c =
-    let a = c .before .before .before .before .before .before .before .args in
-    let l = c .before .before .before .before .loop in
-    omega (arith, room-inside (a .h) (a .w) (l .r) (omega arith) (omega arith))
+mul-work c = omega (arith, inside (c .before .before .before))
 
 shared-slice-read-work : tie.Need-shared-slice-read-work Inv-loop μ-loop
-shared-slice-read-work c =
-    let a = c .before .before .before .before .before .before .before .before .args in
-    let l = c .before .before .before .before .before .loop in
-    omega (arith, room-inside (a .h) (a .w) (l .r) (omega arith) (omega arith))
+shared-slice-read-work c = omega (arith, inside (c .before .before .before .before))
 
 mul-work-2 : tie.Need-mul-work-2 Inv-loop μ-loop
 mul-work-2 c = omega arith
@@ -72,8 +68,7 @@ add-r c = omega arith
 add-at : tie.Need-add-at Inv-loop μ-loop
 add-at c =
     let a = c .before .before .before .before .before .before .before .before .args in
-    let l = c .before .before .before .before .before .loop in
-    omega (arith, room-inside (a .h) (a .w) (l .r) (omega arith) (omega arith), values-le (a .h) (a .w) (omega arith) (omega arith))
+    omega (arith, inside (c .before .before .before .before), values-le (a .h) (a .w) (omega arith) (omega arith))
 
 loop-less : tie.Need-loop-less Inv-loop μ-loop
 loop-less c = omega arith

@@ -29,34 +29,24 @@ sub-c : tie.Need-sub-c Inv-loop μ-loop
 sub-c c = omega arith
 
 block-start-requires : tie.Need-block-start-requires Inv-loop μ-loop
-block-start-requires c κs = (omega (arith, c .new .ensures .0), omega (arith, c .new .ensures .0))
+block-start-requires c κs = (omega arith, omega arith)
+
+-- what lies behind the part's start is the triangle of its columns
+room : (c : tie.After-block-start Inv-loop μ-loop)
+    → let n = c .before .before .before .before .args .n in
+    c .block-start .result + triangle (n % 8) ≡ triangle n
+room c =
+    let n = c .before .before .before .before .args .n in
+    part-room n (n - n % 8) _ (c .block-start .result) (omega arith) (omega arith) (rw (c .before .new .ensures .0) at (c .block-start .ensures))
 
 mul-backward-triangle : tie.Need-mul-backward-triangle Inv-loop μ-loop
-mul-backward-triangle c =
-    let a = c .before .before .before .before .args in
-    omega (
-      arith,
-      part-room (a .n) (a .n - a .n % 8) _ (c .block-start .result) (omega arith) refl
-          (rw (c .before .new .ensures .0) at (c .block-start .ensures)),
-    )
+mul-backward-triangle c = omega (arith, room c)
 
 sub-backward-triangle : tie.Need-sub-backward-triangle Inv-loop μ-loop
-sub-backward-triangle c =
-    let a = c .before .before .before .before .args in
-    omega (
-      arith,
-      part-room (a .n) (a .n - a .n % 8) _ (c .block-start .result) (omega arith) refl
-          (rw (c .before .new .ensures .0) at (c .block-start .ensures)),
-    )
+sub-backward-triangle c = omega (arith, room c)
 
 part-backward-triangle-start : tie.Need-part-backward-triangle-start Inv-loop μ-loop
-part-backward-triangle-start c =
-    let a = c .before .before .before .before .args in
-    omega (
-      arith,
-      part-room (a .n) (a .n - a .n % 8) _ (c .block-start .result) (omega arith) refl
-          (rw (c .before .new .ensures .0) at (c .block-start .ensures)),
-    )
+part-backward-triangle-start c = omega (arith, room c)
 
 part-backward-triangle-end : tie.Need-part-backward-triangle-end Inv-loop μ-loop
 part-backward-triangle-end c = omega arith
@@ -75,12 +65,8 @@ part-backward-triangle-end-2 c = omega arith
 
 backward-triangle-requires : tie.Need-backward-triangle-requires Inv-loop μ-loop
 backward-triangle-requires c κs =
-    let a = c .before .before .before .before .before .before .args in
-    let block-start = c .before .before .block-start in
-    let rows : a .n % 8 ≡ a .n - (a .n - a .n % 8) = omega arith in
-    let room = part-room (a .n) (a .n - a .n % 8) (a .n % 8) (block-start .result) (omega arith) rows
-    (rw (c .before .before .before .new .ensures .0) at (block-start .ensures)) in
-    (omega arith, (omega arith, (simp (length-take, length-drop) (omega (arith, room)), simp (length-take, length-drop) (omega arith))))
+    let fits = room (c .before .before) in
+    (omega arith, (omega arith, (simp (length-take, length-drop) (omega arith), simp (length-take, length-drop) (omega arith))))
 
 loop-holds : tie.Need-loop-holds Inv-loop μ-loop
 loop-holds c =
@@ -100,30 +86,26 @@ sub-c-2 : tie.Need-sub-c-2 Inv-loop μ-loop
 sub-c-2 c = omega arith
 
 block-start-requires-2 : tie.Need-block-start-requires-2 Inv-loop μ-loop
-block-start-requires-2 c κs =
-    let l = c .before .loop in
-    (omega (arith, l .inv .5, l .inv .3), omega (arith, l .inv .5, l .inv .1))
+block-start-requires-2 c κs = (omega arith, omega arith)
 
 sub-backward-columns8 : tie.Need-sub-backward-columns8 Inv-loop μ-loop
 sub-backward-columns8 c = omega arith
 
-mul-backward-columns8 : tie.Need-mul-backward-columns8 Inv-loop μ-loop
-mul-backward-columns8 c =
-    let a = c .before .before .before .before .before .before .before .before .before .before .before .before .args in
+room8 : (c : tie.After-block-start2 Inv-loop μ-loop)
+    → let n = c .before .before .before .before .before .before .before .before .before .before .before .before .args .n in
+    c .block-start2 .result + triangle (n - (c .before .before .loop .c - 8)) ≡ triangle n
+room8 c =
     let l = c .before .before .loop in
-    omega (arith, part-room (a .n) (l .c - 8) _ (c .block-start2 .result) (omega arith) refl (rw (l .inv .5) at (c .block-start2 .ensures)))
+    part-room _ (l .c - 8) _ (c .block-start2 .result) (omega arith) refl (rw (l .inv .5) at (c .block-start2 .ensures))
+
+mul-backward-columns8 : tie.Need-mul-backward-columns8 Inv-loop μ-loop
+mul-backward-columns8 c = omega (arith, room8 c)
 
 sub-backward-columns8-2 : tie.Need-sub-backward-columns8-2 Inv-loop μ-loop
-sub-backward-columns8-2 c =
-    let a = c .before .before .before .before .before .before .before .before .before .before .before .before .args in
-    let l = c .before .before .loop in
-    omega (arith, part-room (a .n) (l .c - 8) _ (c .block-start2 .result) (omega arith) refl (rw (l .inv .5) at (c .block-start2 .ensures)))
+sub-backward-columns8-2 c = omega (arith, room8 c)
 
 part-backward-columns8-start : tie.Need-part-backward-columns8-start Inv-loop μ-loop
-part-backward-columns8-start c =
-    let a = c .before .before .before .before .before .before .before .before .before .before .before .before .args in
-    let l = c .before .before .loop in
-    omega (arith, part-room (a .n) (l .c - 8) _ (c .block-start2 .result) (omega arith) refl (rw (l .inv .5) at (c .block-start2 .ensures)))
+part-backward-columns8-start c = omega (arith, room8 c)
 
 part-backward-columns8-end : tie.Need-part-backward-columns8-end Inv-loop μ-loop
 part-backward-columns8-end c = omega arith
@@ -142,20 +124,8 @@ part-backward-columns8-end-2 c = omega arith
 
 backward-columns8-requires : tie.Need-backward-columns8-requires Inv-loop μ-loop
 backward-columns8-requires c κs =
-    let a = c .before .before .before .before .before .before .before .before .before .before .before .before .before .before .args in
-    let l = c .before .before .before .before .loop in
-    let block-start2 = c .before .before .block-start2 in
-    let room = part-room (a .n) (l .c - 8) _ (block-start2 .result) (omega arith) refl (rw (l .inv .5) at (block-start2 .ensures)) in (
-      omega arith,
-      (
-        omega arith,
-        (
-          simp (length-take, length-drop) (omega (arith, room, l .inv .4)),
-          simp (length-take, length-drop)
-              (omega (arith, l .inv .2)),
-        ),
-      ),
-    )
+    let fits = room8 (c .before .before) in
+    (omega arith, (omega arith, (simp (length-take, length-drop) (omega arith), simp (length-take, length-drop) (omega arith))))
 
 loop-less : tie.Need-loop-less Inv-loop μ-loop
 loop-less c = omega arith
@@ -180,7 +150,7 @@ loop-again c =
     )
 
 same-length : tie.Need-same-length Inv-loop μ-loop
-same-length c = omega (arith, c .before .loop .inv)
+same-length c = omega arith
 
 returns : tie.Need-returns Inv-loop μ-loop
 returns c =

@@ -1,11 +1,11 @@
 -- `solve::plain::backward_triangle` meets its contract. The invariant of its loop: the rows from r on are finished, the others as before. Assumes
 -- nothing.
-use Prim.Native.Nat.{_-_, _≤_}
+use Prim.Native.Nat.{_+_, _-_, _≤_}
 use native.Mathlib.Omega.{arith}
-use mathlib.Core.Path.{ap, _≡_, _∙_}
+use mathlib.Core.Path.{_≡_}
 use denote.Ref.{now}
 use lib.ListN.{length-take, length-drop}
-use Rattle.shape.specs.Places.{packedPlace}
+use Rattle.shape.specs.Places.{triangle, packedPlace}
 use Rattle.solve.specs.Substitution.{entriesAt}
 use Rattle.solve.proofs.Packed.{column-room, triangle-turn}
 use Rattle.solve.proofs.Triangles.{BackwardRows, backward-none, backward-all}
@@ -30,6 +30,20 @@ new-requires c κs = omega arith
 packed-place-requires : tie.Need-packed-place-requires Inv-loop μ-loop
 packed-place-requires c κs = (omega arith, record { lower = omega arith; inside = omega arith })
 
+-- in a turn the column begins at its diagonal's place, and lies in the matrix
+placed : (c : tie.After-packed-place Inv-loop μ-loop)
+    → let a = c .before .before .before .before .before .before .args in
+    let r = c .before .before .before .loop .r in
+    c .packed-place .result ≡ packedPlace (a .h) (r - 1) (r - 1)
+placed c = rw (c .before .new .ensures .0) at (c .packed-place .ensures)
+
+inside : (c : tie.After-packed-place Inv-loop μ-loop)
+    → let a = c .before .before .before .before .before .before .args in
+    c .packed-place .result + (a .h - (c .before .before .before .loop .r - 1)) ≤ triangle (a .h)
+inside c =
+    let h = c .before .before .before .before .before .before .args .h in
+    omega (arith, placed c, column-room h (c .before .before .before .loop .r) (omega arith) (omega arith))
+
 mul-subtract-falling : tie.Need-mul-subtract-falling Inv-loop μ-loop
 mul-subtract-falling c = omega arith
 
@@ -37,13 +51,7 @@ slice-read-subtract-falling : tie.Need-slice-read-subtract-falling Inv-loop μ-l
 slice-read-subtract-falling c = omega arith
 
 add-subtract-falling : tie.Need-add-subtract-falling Inv-loop μ-loop
-add-subtract-falling c =
-    let a = c .before .before .before .before .before .before .before .args in
-    let l = c .before .before .before .before .loop in
-    let packed-place = c .before .packed-place in
-    let placed : packed-place .result ≡ packedPlace (a .h) (l .r - 1) (l .r - 1) =
-    packed-place .ensures ∙ ap (λ n. packedPlace n (l .r - 1) (l .r - 1)) (c .before .before .new .ensures .0) in
-    omega (arith, placed, column-room (a .h) (l .r) (omega arith) (omega arith))
+add-subtract-falling c = omega (arith, inside (c .before))
 
 mul-subtract-falling-2 : tie.Need-mul-subtract-falling-2 Inv-loop μ-loop
 mul-subtract-falling-2 c = omega arith
@@ -58,31 +66,13 @@ part-subtract-falling-end : tie.Need-part-subtract-falling-end Inv-loop μ-loop
 part-subtract-falling-end c = omega arith
 
 subtract-falling-requires : tie.Need-subtract-falling-requires Inv-loop μ-loop
-subtract-falling-requires c κs =
-    let a = c .before .before .before .before .before .before .before .before .before .args in
-    let l = c .before .before .before .before .before .before .loop in
-    let packed-place = c .before .before .before .packed-place in
-    let placed : packed-place .result ≡ packedPlace (a .h) (l .r - 1) (l .r - 1) =
-    packed-place .ensures ∙ ap (λ n. packedPlace n (l .r - 1) (l .r - 1)) (c .before .before .before .before .new .ensures .0) in
-    simp (length-take, length-drop) (omega (arith, placed, column-room (a .h) (l .r) (omega arith) (omega arith)))
+subtract-falling-requires c κs = simp (length-take, length-drop) (omega (arith, inside (c .before .before .before)))
 
 mul-work : tie.Need-mul-work Inv-loop μ-loop
-mul-work c =
-    let a = c .before .before .before .before .before .before .before .before .before .before .args in
-    let l = c .before .before .before .before .before .before .before .loop in
-    let packed-place = c .before .before .before .before .packed-place in
-    let placed : packed-place .result ≡ packedPlace (a .h) (l .r - 1) (l .r - 1) =
-    packed-place .ensures ∙ ap (λ n. packedPlace n (l .r - 1) (l .r - 1)) (c .before .before .before .before .before .new .ensures .0) in
-    omega (arith, placed, column-room (a .h) (l .r) (omega arith) (omega arith))
+mul-work c = omega (arith, inside (c .before .before .before .before))
 
 shared-slice-read-work : tie.Need-shared-slice-read-work Inv-loop μ-loop
-shared-slice-read-work c =
-    let a = c .before .before .before .before .before .before .before .before .before .before .before .args in
-    let l = c .before .before .before .before .before .before .before .before .loop in
-    let packed-place = c .before .before .before .before .before .packed-place in
-    let placed : packed-place .result ≡ packedPlace (a .h) (l .r - 1) (l .r - 1) =
-    packed-place .ensures ∙ ap (λ n. packedPlace n (l .r - 1) (l .r - 1)) (c .before .before .before .before .before .before .new .ensures .0) in
-    omega (arith, placed, column-room (a .h) (l .r) (omega arith) (omega arith))
+shared-slice-read-work c = omega (arith, inside (c .before .before .before .before .before))
 
 mul-work-2 : tie.Need-mul-work-2 Inv-loop μ-loop
 mul-work-2 c = omega arith
@@ -98,13 +88,11 @@ loop-again c =
     let a = c .before .before .before .before .before .before .before .before .before .before .before .args in
     let l = c .before .before .before .before .before .before .before .before .loop in
     let packed-place = c .before .before .before .before .before .packed-place in
-    let subtract-falling = c .before .subtract-falling in
-    let placed : packed-place .result ≡ packedPlace (a .h) (l .r - 1) (l .r - 1) =
-    packed-place .ensures ∙ ap (λ n. packedPlace n (l .r - 1) (l .r - 1)) (c .before .before .before .before .before .before .new .ensures .0) in (
+    let subtract-falling = c .before .subtract-falling in (
       omega arith,
       triangle-turn (a .h) (a .w) (l .r) (packed-place .result) (now (a .part)) (now (a .work)) (l .work)
           (subtract-falling .result) (c .before .before .before .before .before .before .before .loop-test .taken) (l .inv .0) (omega arith)
-          (omega arith) placed (subtract-falling .ensures) (l .inv .1),
+          (omega arith) (placed (c .before .before .before .before .before)) (subtract-falling .ensures) (l .inv .1),
     )
 
 same-length : tie.Need-same-length Inv-loop μ-loop

@@ -38,13 +38,13 @@ add-to : tie.Need-add-to Inv-loop μ-loop
 add-to c =
     let start = c .before .before .before .before .before in
     let loop = c .before .loop in
-    omega (arith, next-within (start .args .shape .order) (start .args .m) (loop .q) (c .loop-test .taken), start .pre .1, start .good)
+    omega (arith, next-within (start .args .shape .order) (start .args .m) (loop .q) (c .loop-test .taken))
 
 mul-solve-one : tie.Need-mul-solve-one Inv-loop μ-loop
 mul-solve-one c =
     let start = c .before .before .before .before .before in
     let loop = c .before .loop in
-    omega (arith, next-within (start .args .shape .order) (start .args .m) (loop .q) (c .loop-test .taken), start .pre .1, start .good)
+    omega (arith, next-within (start .args .shape .order) (start .args .m) (loop .q) (c .loop-test .taken))
 
 sub-solve-one : tie.Need-sub-solve-one Inv-loop μ-loop
 sub-solve-one c = search needs
@@ -59,7 +59,7 @@ part-solve-one-end c =
     let size : length (loop .rhs) ≡ length (now (start .args .rhs)) = ap length (loop .inv .3) ∙ length-solutions (start .args .shape .order)
     (factorOf (start .args .layout) (start .args .shape .order) (start .args .shape .block) (now (start .args .matrix))) (now (start .args .rhs))
     (start .args .m) (loop .q) (start .pre .1) (loop .inv .0) in
-    omega (arith, next-within (start .args .shape .order) (start .args .m) (loop .q) (c .loop-test .taken), start .pre .1)
+    omega (arith, next-within (start .args .shape .order) (start .args .m) (loop .q) (c .loop-test .taken))
 
 solve-one-requires : tie.Need-solve-one-requires Inv-loop μ-loop
 solve-one-requires c κs = search needs
@@ -108,7 +108,7 @@ loop-again c =
     (factorOf (start .args .layout) (start .args .shape .order) (start .args .shape .block) (now (start .args .matrix))) (now (start .args .rhs))
     (loop .q) (loop .from) (loop .from + start .args .shape .order - loop .from) (loop .rhs) _ _
     (loop .inv .1) (omega arith) (loop .inv .3) (loop .inv .4) (c .before .before .before .before .before .solve-one .ensures) (c .if1 .left) in (
-      omega (arith, c .before .before .before .before .before .before .before .before .loop-test .taken),
+      omega arith,
       next-at (start .args .shape .order) (loop .q)
           (loop .from) (loop .inv .1),
       search needs,
@@ -134,7 +134,7 @@ returns-2 : tie.Need-returns-2 Inv-loop μ-loop
 returns-2 c =
     let start = c .before .before .before .before .before .before in
     let loop = c .before .before .loop in
-    let end : loop .q ≡ start .args .m = omega (arith, c .before .loop-test .left, loop .inv .0) in
+    let end : loop .q ≡ start .args .m = omega arith in
     all-solved (start .args .shape .order) (factorOf (start .args .layout) (start .args .shape .order) (start .args .shape .block)
     (now (start .args .matrix))) (now (start .args .rhs)) (start .args .m) (c .refusal2 .result) (loop .rhs)
     (subst (λ k. lowestRefusal (judgeRhs (start .args .shape .order)
