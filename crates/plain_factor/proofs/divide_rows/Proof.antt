@@ -22,10 +22,10 @@ mul-all-finite : tie.Need-mul-all-finite
 mul-all-finite c = search needs
 
 sub-all-finite : tie.Need-sub-all-finite
-sub-all-finite c = simp length-set (omega (arith, c .before .before .divide .kept .0))
+sub-all-finite c = simp length-set (omega arith)
 
 part-all-finite-start : tie.Need-part-all-finite-start
-part-all-finite-start c = simp length-set (omega (arith, c .before .before .before .divide .kept .0))
+part-all-finite-start c = simp length-set (omega arith)
 
 part-all-finite-end : tie.Need-part-all-finite-end
 part-all-finite-end c = search needs

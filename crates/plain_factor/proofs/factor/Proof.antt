@@ -1,9 +1,10 @@
 -- `plain_factor::factor` meets its contract. Assumes nothing.
 use mathlib.Core.Path.{sym}
+use lib.ListN.{length}
 use lib.Seq.{length-take-le}
 use Rattle.calls.proofs.Judging.{refused-of, accepted-of}
 use Rattle.calls.specs.declared.Layout.the-variants.{Packed}
-use Rattle.calls.proofs.CheckLaws.{factor-refused, factor-passed}
+use Rattle.calls.proofs.CheckLaws.{FactorAccepted, factor-refused, factor-passed}
 use Rattle.plain_factor.proofs.Outcomes.{columns-done}
 use borrow.Author.Needs.{needs}
 use Rattle.plain_factor.proofs.factor.Statement.{statement}
@@ -26,41 +27,26 @@ returns c =
     factor-refused Packed (a .shape .order) (a .shape .block) (a .matrix .now) (a .work .now) (check-factor .result) (check-factor .ensures)
     (refused-of (accepted .result) (check-factor .result) (accepted .ensures) (c .if1 .taken))
 
-slice-relend-prefix-factor-cleared : tie.Need-slice-relend-prefix-factor-cleared
-slice-relend-prefix-factor-cleared c =
-    let a = c .before .before .before .before .before .before .before .args in
-    let check-factor = c .before .before .before .check-factor in
-    let accepted = c .before .before .accepted in
-    let if1 = c .before .if1 in
-    let ok =
+passed : (c : tie.Else1)
+    → let a = c .before .before .before .before .before .before .args in
+    FactorAccepted Packed (a .shape .order) (a .shape .block) (a .matrix .now) (length (a .work .now))
+passed c =
+    let a = c .before .before .before .before .before .before .args in
+    let check-factor = c .before .before .check-factor in
+    let accepted = c .before .accepted in
     factor-passed Packed (a .shape .order) (a .shape .block) (a .matrix .now) (a .work .now) (check-factor .result) (check-factor .ensures)
-    (accepted-of (accepted .result) (check-factor .result) (accepted .ensures) (if1 .left))
-    in
-    ok .sizes .work
+    (accepted-of (accepted .result) (check-factor .result) (accepted .ensures) (c .if1 .left))
+
+slice-relend-prefix-factor-cleared : tie.Need-slice-relend-prefix-factor-cleared
+slice-relend-prefix-factor-cleared c = passed (c .before) .sizes .work
 
 slice-aggregate-factor-cleared : tie.Need-slice-aggregate-factor-cleared
-slice-aggregate-factor-cleared c =
-    let a = c .before .before .before .before .before .before .before .before .args in
-    let check-factor = c .before .before .before .before .check-factor in
-    let accepted = c .before .before .before .accepted in
-    let if1 = c .before .before .if1 in
-    let ok =
-    factor-passed Packed (a .shape .order) (a .shape .block) (a .matrix .now) (a .work .now) (check-factor .result) (check-factor .ensures)
-    (accepted-of (accepted .result) (check-factor .result) (accepted .ensures) (if1 .left))
-    in
-    sym (length-take-le (a .shape .order) (a .work .now) (ok .sizes .work))
+slice-aggregate-factor-cleared c = sym (length-take-le _ _ (passed (c .before .before) .sizes .work))
 
 factor-cleared-requires : tie.Need-factor-cleared-requires
 factor-cleared-requires c κs =
-    let a = c .before .before .before .before .before .before .before .before .args in
-    let check-factor = c .before .before .before .before .check-factor in
-    let accepted = c .before .before .before .accepted in
-    let if1 = c .before .before .if1 in
-    let ok =
-    factor-passed Packed (a .shape .order) (a .shape .block) (a .matrix .now) (a .work .now) (check-factor .result) (check-factor .ensures)
-    (accepted-of (accepted .result) (check-factor .result) (accepted .ensures) (if1 .left))
-    in
-    (ok .sizes .order, ok .sizes .matrix, length-take-le (a .shape .order) (a .work .now) (ok .sizes .work))
+    let sizes = passed (c .before .before) .sizes in
+    (sizes .order, sizes .matrix, length-take-le _ _ (sizes .work))
 
 same-length-2 : tie.Need-same-length-2
 same-length-2 c = search needs

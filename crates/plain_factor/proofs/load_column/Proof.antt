@@ -28,33 +28,27 @@ loop-holds c =
 
 add-work : tie.Need-add-work Inv-loop μ-loop
 add-work c =
-    let l = c .before .loop in
-    let a = c .before .before .before .before .before .args in
-    let pre = c .before .before .before .before .before .pre in
-    omega (arith, row-place-le (l .i) (a .j) (pre .0) (omega arith) (omega arith))
+    let start = c .before .before .before .before .before in
+    omega (arith, row-place-le (c .before .loop .i) (start .args .j) (start .pre .0) (omega arith) (omega arith))
 
 mul-work : tie.Need-mul-work Inv-loop μ-loop
 mul-work c =
-    let l = c .before .loop in
-    let a = c .before .before .before .before .before .args in
-    let pre = c .before .before .before .before .before .pre in
-    omega (arith, row-place-le (l .i) (a .j) (pre .0) (omega arith) (omega arith))
+    let start = c .before .before .before .before .before in
+    omega (arith, row-place-le (c .before .loop .i) (start .args .j) (start .pre .0) (omega arith) (omega arith))
 
 shared-slice-read-work : tie.Need-shared-slice-read-work Inv-loop μ-loop
 shared-slice-read-work c =
-    let l = c .before .before .loop in
-    let a = c .before .before .before .before .before .before .args in
-    let pre = c .before .before .before .before .before .before .pre in
-    omega (arith, row-place-le (l .i) (a .j) (pre .0) (omega arith) (omega arith))
+    let start = c .before .before .before .before .before .before in
+    omega (arith, row-place-le (c .before .before .loop .i) (start .args .j) (start .pre .0) (omega arith) (omega arith))
 
 mul-work-2 : tie.Need-mul-work-2 Inv-loop μ-loop
-mul-work-2 c = omega (arith, c .before .before .before .before .before .before .pre .0 .order)
+mul-work-2 c = omega arith
 
 slice-write-work : tie.Need-slice-write-work Inv-loop μ-loop
-slice-write-work c = omega (arith, c .before .before .loop .inv .2 .size)
+slice-write-work c = omega arith
 
 add-i : tie.Need-add-i Inv-loop μ-loop
-add-i c = omega (arith, c .before .before .before .before .before .before .pre .0 .order)
+add-i c = omega arith
 
 loop-less : tie.Need-loop-less Inv-loop μ-loop
 loop-less c = omega arith

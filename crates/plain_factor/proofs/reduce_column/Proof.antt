@@ -24,7 +24,7 @@ group-count-requires c κs = c .loop-test .taken
 row-start-requires : tie.Need-row-start-requires Inv-loop μ-loop
 row-start-requires c κs =
     let pre = c .before .before .before .before .before .pre in
-    (pre .0 .order, omega (arith, pre .0 .column), omega (arith, pre .0 .column))
+    (pre .0 .order, omega arith, omega arith)
 
 reduce-group-requires : tie.Need-reduce-group-requires Inv-loop μ-loop
 reduce-group-requires c κs =
@@ -35,13 +35,10 @@ reduce-group-requires c κs =
     (pre .0, (record { high = group-count .ensures .1; start = row-start .ensures }, (l .inv .1, pre .1 .0 .1, pre .1 .0 .2)))
 
 add-k : tie.Need-add-k Inv-loop μ-loop
-add-k c =
-    let group-count = c .before .before .before .before .before .group-count in
-    let pre = c .before .before .before .before .before .before .before .before .before .before .pre in
-    omega (arith, group-count .ensures, pre .0 .order, pre .0 .column)
+add-k c = omega arith
 
 loop-less : tie.Need-loop-less Inv-loop μ-loop
-loop-less c = omega (arith, c .before .before .before .before .before .group-count .ensures)
+loop-less c = omega arith
 
 loop-again : tie.Need-loop-again Inv-loop μ-loop
 loop-again c =

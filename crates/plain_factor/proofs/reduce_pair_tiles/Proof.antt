@@ -40,14 +40,13 @@ sub-reduce-part c = omega arith
 
 reduce-part-requires-2 : tie.Need-reduce-part-requires-2 Inv-loop μ-loop
 reduce-part-requires-2 c κs =
-    let pre = c .before .before .before .before .before .before .before .before .before .pre in
-    let reduce-part = c .before .before .before .reduce-part in (
+    let pre = c .before .before .before .before .before .before .before .before .before .pre in (
       record { order = pre .0 .order; column = omega arith; size = pre .0 .size },
-      (record { high = omega (arith, pre .1 .0 .high); start = pre .1 .0 .start }, (omega arith, omega (arith, reduce-part .kept .0))),
+      (record { high = omega arith; start = pre .1 .0 .start }, (omega arith, omega arith)),
     )
 
 add-i : tie.Need-add-i Inv-loop μ-loop
-add-i c = omega (arith, c .before .before .before .before .before .before .before .before .before .before .before .before .pre .0 .order)
+add-i c = omega arith
 
 loop-less : tie.Need-loop-less Inv-loop μ-loop
 loop-less c = omega arith

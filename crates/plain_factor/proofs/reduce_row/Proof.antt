@@ -1,8 +1,9 @@
 -- `plain_factor::reduce_row` meets its contract. The loop's invariant: the row is less its products in c columns. The measure is what is left of the group. Assumes nothing.
-use Prim.Native.Nat.{_+_, _-_, _≤_}
+use Prim.Native.Nat.{ℕ, _+_, _-_, _≤_, _<_}
 use native.Mathlib.Nat.{add-zero}
 use native.Mathlib.Omega.{arith}
 use mathlib.Core.Path.{_≡_, ap, _∙_}
+use lib.ListN.{length}
 use Rattle.shape.specs.Places.{packedPlace}
 use Rattle.plain_factor.specs.Steps.{lessProducts}
 use Rattle.plain_factor.proofs.Rows.{row-place-le, start-next, less-none, less-next}
@@ -21,47 +22,32 @@ loop-holds c =
     let a = c .args in
     (omega arith, rw add-zero (c .pre .1 .0 .start), less-none (a .n) (a .matrix .now) (a .j) (a .k) (a .i) (a .row))
 
+-- in a turn a row of column k + c stands in the memory, at a place that fits
+inside : (c : tie.In-loop Inv-loop μ-loop) (i : ℕ)
+    → i < c .before .before .args .n
+    → let p = c .before .loop .start + i in
+    (p < length (c .before .before .args .matrix .now)) × (p < 8002000)
+inside c i h =
+    let start = c .before .before in
+    rw (c .before .loop .inv .1) (row-place-le i (start .args .k + c .before .loop .c) (start .pre .0) (omega arith) h)
+
 add-rest : tie.Need-add-rest Inv-loop μ-loop
-add-rest c =
-    let a = c .before .before .args in
-    let l = c .before .loop in
-    let pre = c .before .before .pre in
-    omega (arith, row-place-le (a .i) (a .k + l .c) (pre .0) (omega arith) (omega arith))
+add-rest c = omega (arith, inside c (c .before .before .args .i) (omega arith))
 
 mul-rest : tie.Need-mul-rest Inv-loop μ-loop
-mul-rest c =
-    let a = c .before .before .args in
-    let l = c .before .loop in
-    let pre = c .before .before .pre in
-    omega (arith, row-place-le (a .i) (a .k + l .c) (pre .0) (omega arith) (omega arith))
+mul-rest c = omega (arith, inside c (c .before .before .args .i) (omega arith))
 
 shared-slice-read-rest : tie.Need-shared-slice-read-rest Inv-loop μ-loop
-shared-slice-read-rest c =
-    let a = c .before .before .before .args in
-    let l = c .before .before .loop in
-    let pre = c .before .before .before .pre in
-    omega (arith, row-place-le (a .i) (a .k + l .c) (pre .0) (omega arith) (omega arith))
+shared-slice-read-rest c = omega (arith, inside (c .before) (c .before .before .before .args .i) (omega arith))
 
 add-rest-2 : tie.Need-add-rest-2 Inv-loop μ-loop
-add-rest-2 c =
-    let a = c .before .before .before .args in
-    let l = c .before .before .loop in
-    let pre = c .before .before .before .pre in
-    omega (arith, row-place-le (a .j) (a .k + l .c) (pre .0) (omega arith) (omega arith))
+add-rest-2 c = omega (arith, inside (c .before) (c .before .before .before .args .j) (omega arith))
 
 mul-rest-2 : tie.Need-mul-rest-2 Inv-loop μ-loop
-mul-rest-2 c =
-    let a = c .before .before .before .args in
-    let l = c .before .before .loop in
-    let pre = c .before .before .before .pre in
-    omega (arith, row-place-le (a .j) (a .k + l .c) (pre .0) (omega arith) (omega arith))
+mul-rest-2 c = omega (arith, inside (c .before) (c .before .before .before .args .j) (omega arith))
 
 shared-slice-read-rest-2 : tie.Need-shared-slice-read-rest-2 Inv-loop μ-loop
-shared-slice-read-rest-2 c =
-    let a = c .before .before .before .before .args in
-    let l = c .before .before .before .loop in
-    let pre = c .before .before .before .before .pre in
-    omega (arith, row-place-le (a .j) (a .k + l .c) (pre .0) (omega arith) (omega arith))
+shared-slice-read-rest-2 c = omega (arith, inside (c .before .before) (c .before .before .before .before .args .j) (omega arith))
 
 sub-start : tie.Need-sub-start Inv-loop μ-loop
 sub-start c = omega arith

@@ -20,22 +20,22 @@ loop-holds : tie.Need-loop-holds Inv-loop μ-loop
 loop-holds c = (omega arith, omega arith, rw sub-self (filled-none nan (c .before .before .args .j) _ (c .before .before .args .work .now)))
 
 mul-reduce-row : tie.Need-mul-reduce-row Inv-loop μ-loop
-mul-reduce-row c = omega (arith, c .before .before .before .before .pre .0 .order)
+mul-reduce-row c = omega arith
 
 slice-read-reduce-row : tie.Need-slice-read-reduce-row Inv-loop μ-loop
-slice-read-reduce-row c = omega (arith, c .before .before .loop .inv .2 .size)
+slice-read-reduce-row c = omega arith
 
 reduce-row-requires : tie.Need-reduce-row-requires Inv-loop μ-loop
 reduce-row-requires c κs = (c .before .before .before .before .before .pre .0, (c .before .before .before .before .before .pre .1 .0, omega arith))
 
 mul-work : tie.Need-mul-work Inv-loop μ-loop
-mul-work c = omega (arith, c .before .before .before .before .before .before .pre .0 .order)
+mul-work c = omega arith
 
 slice-write-work : tie.Need-slice-write-work Inv-loop μ-loop
-slice-write-work c = omega (arith, c .before .before .before .loop .inv .2 .size)
+slice-write-work c = omega arith
 
 add-i : tie.Need-add-i Inv-loop μ-loop
-add-i c = omega (arith, c .before .before .before .before .before .before .pre .0 .order)
+add-i c = omega arith
 
 loop-less : tie.Need-loop-less Inv-loop μ-loop
 loop-less c = omega arith

@@ -1,9 +1,9 @@
 -- `plain_factor::reduce_tile` meets its contract. The loop's invariant: the rows are less their products in c columns. The measure is what is left of the group. Assumes nothing.
-use Prim.Native.Nat.{_+_, _-_, _≤_}
+use Prim.Native.Nat.{ℕ, _+_, _-_, _≤_, _<_}
 use native.Mathlib.Nat.{add-zero}
 use native.Mathlib.Omega.{arith}
 use mathlib.Core.Path.{_≡_, ap, _∙_}
-use lib.ListN.{getD}
+use lib.ListN.{length, getD}
 use lib.Ieee.{nan}
 use Rattle.shape.specs.Places.{packedPlace}
 use Rattle.plain_factor.specs.Steps.{lessProducts, TileReduced}
@@ -23,40 +23,29 @@ loop-holds c =
     let a = c .before .args in
     (omega arith, rw add-zero (c .before .pre .1 .0 .start), λ r h. less-none (a .n) (a .matrix .now) (a .j) (a .k) (a .i + r) (getD (a .tile) r nan))
 
+-- in a turn a row of column k + c stands in the memory, at a place that fits
+inside : (c : tie.In-loop Inv-loop μ-loop) (i : ℕ)
+    → i < c .before .before .before .args .n
+    → let p = c .before .loop .start + i in
+    (p < length (c .before .before .before .args .matrix .now)) × (p < 8002000)
+inside c i h =
+    let start = c .before .before .before in
+    rw (c .before .loop .inv .1) (row-place-le i (start .args .k + c .before .loop .c) (start .pre .0) (omega arith) h)
+
 add-step16 : tie.Need-add-step16 Inv-loop μ-loop
-add-step16 c =
-    let a = c .before .before .before .args in
-    let l = c .before .loop in
-    let pre = c .before .before .before .pre in
-    omega (arith, row-place-le (a .i) (a .k + l .c) (pre .0) (omega arith) (omega arith))
+add-step16 c = omega (arith, inside c (c .before .before .before .args .i) (omega arith))
 
 add-step16-2 : tie.Need-add-step16-2 Inv-loop μ-loop
-add-step16-2 c =
-    let a = c .before .before .before .args in
-    let l = c .before .loop in
-    let pre = c .before .before .before .pre in
-    omega (arith, row-place-le (a .j) (a .k + l .c) (pre .0) (omega arith) (omega arith))
+add-step16-2 c = omega (arith, inside c (c .before .before .before .args .j) (omega arith))
 
 mul-step16 : tie.Need-mul-step16 Inv-loop μ-loop
-mul-step16 c =
-    let a = c .before .before .before .args in
-    let l = c .before .loop in
-    let pre = c .before .before .before .pre in
-    omega (arith, row-place-le (a .j) (a .k + l .c) (pre .0) (omega arith) (omega arith))
+mul-step16 c = omega (arith, inside c (c .before .before .before .args .j) (omega arith))
 
 shared-slice-read-step16 : tie.Need-shared-slice-read-step16 Inv-loop μ-loop
-shared-slice-read-step16 c =
-    let a = c .before .before .before .before .args in
-    let l = c .before .before .loop in
-    let pre = c .before .before .before .before .pre in
-    omega (arith, row-place-le (a .j) (a .k + l .c) (pre .0) (omega arith) (omega arith))
+shared-slice-read-step16 c = omega (arith, inside (c .before) (c .before .before .before .before .args .j) (omega arith))
 
 step16-requires : tie.Need-step16-requires Inv-loop μ-loop
-step16-requires c κs =
-    let a = c .before .before .before .before .args in
-    let l = c .before .before .loop in
-    let pre = c .before .before .before .before .pre in
-    omega (arith, row-place-le (a .i + 15) (a .k + l .c) (pre .0) (omega arith) (omega arith))
+step16-requires c κs = omega (arith, inside (c .before) (c .before .before .before .before .args .i + 15) (omega arith))
 
 sub-start : tie.Need-sub-start Inv-loop μ-loop
 sub-start c = omega arith

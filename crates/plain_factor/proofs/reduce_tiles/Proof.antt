@@ -25,11 +25,10 @@ loop-holds c =
 reduce-part-requires : tie.Need-reduce-part-requires Inv-loop μ-loop
 reduce-part-requires c κs =
     let pre = c .before .before .before .before .before .pre in
-    let l = c .before .before .loop in
-    (pre .0, (pre .1 .0, (omega arith, omega (arith, l .inv .3 .size))))
+    (pre .0, (pre .1 .0, (omega arith, omega arith)))
 
 add-i : tie.Need-add-i Inv-loop μ-loop
-add-i c = omega (arith, c .before .before .before .before .before .before .before .before .pre .0 .order)
+add-i c = omega arith
 
 loop-less : tie.Need-loop-less Inv-loop μ-loop
 loop-less c = omega arith

@@ -25,24 +25,20 @@ loop-holds c =
     (omega arith, omega arith, rows-stored-none (a .n) (a .j) (a .work .now) (a .matrix .now))
 
 mul-matrix : tie.Need-mul-matrix Inv-loop μ-loop
-mul-matrix c = omega (arith, c .before .before .before .before .before .pre .0 .order)
+mul-matrix c = omega arith
 
 shared-slice-read-matrix : tie.Need-shared-slice-read-matrix Inv-loop μ-loop
 shared-slice-read-matrix c = omega arith
 
 add-matrix : tie.Need-add-matrix Inv-loop μ-loop
 add-matrix c =
-    let l = c .before .before .loop in
-    let a = c .before .before .before .before .before .before .args in
-    let pre = c .before .before .before .before .before .before .pre in
-    omega (arith, row-place-le (l .i) (a .j) (pre .0) (omega arith) (omega arith))
+    let start = c .before .before .before .before .before .before in
+    omega (arith, row-place-le (c .before .before .loop .i) (start .args .j) (start .pre .0) (omega arith) (omega arith))
 
 mul-matrix-2 : tie.Need-mul-matrix-2 Inv-loop μ-loop
 mul-matrix-2 c =
-    let l = c .before .before .loop in
-    let a = c .before .before .before .before .before .before .args in
-    let pre = c .before .before .before .before .before .before .pre in
-    omega (arith, row-place-le (l .i) (a .j) (pre .0) (omega arith) (omega arith))
+    let start = c .before .before .before .before .before .before in
+    omega (arith, row-place-le (c .before .before .loop .i) (start .args .j) (start .pre .0) (omega arith) (omega arith))
 
 slice-write-matrix : tie.Need-slice-write-matrix Inv-loop μ-loop
 slice-write-matrix c =
@@ -52,7 +48,7 @@ slice-write-matrix c =
     omega (arith, row-place-le (l .i) (a .j) (c .before .before .before .before .before .before .pre .0) (omega arith) (omega arith))
 
 add-i : tie.Need-add-i Inv-loop μ-loop
-add-i c = omega (arith, c .before .before .before .before .before .before .pre .0 .order)
+add-i c = omega arith
 
 loop-less : tie.Need-loop-less Inv-loop μ-loop
 loop-less c = omega arith

@@ -1,9 +1,9 @@
 -- `plain_factor::take_waiting` meets its contract. The loop's invariant: the rows before i are in place, and nothing else is changed. The measure is what is left of the rows. Assumes nothing.
-use Prim.Native.Nat.{ℕ, _+_, _-_, _≤_}
+use Prim.Native.Nat.{ℕ, _+_, _-_, _≤_, _<_}
 use native.Mathlib.Nat.{sub-self}
 use native.Mathlib.Omega.{arith}
 use mathlib.Core.Path.{ap, _∙_}
-use lib.ListN.{getD}
+use lib.ListN.{length, getD}
 use lib.Ieee.{Float, nan, binary64, mul, sub}
 use Rattle.kernels.specs.Kernels.{Filled}
 use Rattle.kernels.proofs.Parts.{filled-none, filled-at, filled-here}
@@ -25,25 +25,25 @@ sub-row-start c = omega arith
 row-start-requires : tie.Need-row-start-requires Inv-loop μ-loop
 row-start-requires c κs =
     let pre = c .before .before .pre in
-    (pre .0 .order, omega (arith, pre .0 .column), omega (arith, pre .0 .column))
+    (pre .0 .order, omega arith, omega arith)
+
+-- a row of column j − 1 stands in the memory, at a place that fits
+inside : (c : tie.After-row-start Inv-loop μ-loop) (i : ℕ)
+    → i < c .before .before .before .args .n
+    → let p = c .row-start .result + i in
+    (p < length (c .before .before .before .args .matrix .now)) × (p < 8002000)
+inside c i h =
+    let start = c .before .before .before in
+    rw (c .row-start .ensures) (row-place-le i (start .args .j - 1) (start .pre .0) (omega arith) h)
 
 add-x : tie.Need-add-x Inv-loop μ-loop
-add-x c =
-    let a = c .before .before .before .args in
-    let pre = c .before .before .before .pre in
-    omega (arith, row-place-le (a .j) (a .j - 1) (pre .0) (omega arith) (omega arith))
+add-x c = omega (arith, inside c (c .before .before .before .args .j) (omega arith))
 
 mul-x : tie.Need-mul-x Inv-loop μ-loop
-mul-x c =
-    let a = c .before .before .before .args in
-    let pre = c .before .before .before .pre in
-    omega (arith, row-place-le (a .j) (a .j - 1) (pre .0) (omega arith) (omega arith))
+mul-x c = omega (arith, inside c (c .before .before .before .args .j) (omega arith))
 
 shared-slice-read-x : tie.Need-shared-slice-read-x Inv-loop μ-loop
-shared-slice-read-x c =
-    let a = c .before .before .before .before .args in
-    let pre = c .before .before .before .before .pre in
-    omega (arith, row-place-le (a .j) (a .j - 1) (pre .0) (omega arith) (omega arith))
+shared-slice-read-x c = omega (arith, inside (c .before) (c .before .before .before .before .args .j) (omega arith))
 
 loop-holds : tie.Need-loop-holds Inv-loop μ-loop
 loop-holds c =
@@ -54,40 +54,28 @@ sub-work : tie.Need-sub-work Inv-loop μ-loop
 sub-work c = omega arith
 
 mul-work : tie.Need-mul-work Inv-loop μ-loop
-mul-work c = omega (arith, c .before .before .before .before .before .before .pre .0 .order)
+mul-work c = omega arith
 
 slice-read-work : tie.Need-slice-read-work Inv-loop μ-loop
-slice-read-work c = omega (arith, c .before .before .loop .inv .2 .size)
+slice-read-work c = omega arith
 
 add-work : tie.Need-add-work Inv-loop μ-loop
-add-work c =
-    let l = c .before .before .loop in
-    let a = c .before .before .before .before .before .before .before .args in
-    let pre = c .before .before .before .before .before .before .before .pre in
-    omega (arith, row-place-le (l .i) (a .j - 1) (pre .0) (omega arith) (omega arith))
+add-work c = omega (arith, inside (c .before .before .before .before) (c .before .before .loop .i) (omega arith))
 
 mul-work-2 : tie.Need-mul-work-2 Inv-loop μ-loop
-mul-work-2 c =
-    let l = c .before .before .loop in
-    let a = c .before .before .before .before .before .before .before .args in
-    let pre = c .before .before .before .before .before .before .before .pre in
-    omega (arith, row-place-le (l .i) (a .j - 1) (pre .0) (omega arith) (omega arith))
+mul-work-2 c = omega (arith, inside (c .before .before .before .before) (c .before .before .loop .i) (omega arith))
 
 shared-slice-read-work : tie.Need-shared-slice-read-work Inv-loop μ-loop
-shared-slice-read-work c =
-    let l = c .before .before .before .loop in
-    let a = c .before .before .before .before .before .before .before .before .args in
-    let pre = c .before .before .before .before .before .before .before .before .pre in
-    omega (arith, row-place-le (l .i) (a .j - 1) (pre .0) (omega arith) (omega arith))
+shared-slice-read-work c = omega (arith, inside (c .before .before .before .before .before) (c .before .before .before .loop .i) (omega arith))
 
 mul-work-3 : tie.Need-mul-work-3 Inv-loop μ-loop
-mul-work-3 c = omega (arith, c .before .before .before .before .before .before .before .before .pre .0 .order)
+mul-work-3 c = omega arith
 
 slice-write-work : tie.Need-slice-write-work Inv-loop μ-loop
-slice-write-work c = omega (arith, c .before .before .before .loop .inv .2 .size)
+slice-write-work c = omega arith
 
 add-i : tie.Need-add-i Inv-loop μ-loop
-add-i c = omega (arith, c .before .before .before .before .before .before .before .before .pre .0 .order)
+add-i c = omega arith
 
 loop-less : tie.Need-loop-less Inv-loop μ-loop
 loop-less c = omega arith
