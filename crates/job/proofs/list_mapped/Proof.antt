@@ -15,9 +15,7 @@ enum-known-place : tie.Need-enum-known-place
 enum-known-place c = search needs
 
 put-end-requires : tie.Need-put-end-requires
-put-end-requires c κs =
-    let pre = c .before .before .before .before .before .before .before .pre in
-    omega (arith, (pre .1), end-short 13 (c .before .before .place .given .0 .0))
+put-end-requires c κs = omega (arith, end-short 13 (c .before .before .place .given .0 .0))
 
 enum-known-next : tie.Need-enum-known-next
 enum-known-next c = search needs

@@ -12,20 +12,14 @@ solve-job-requires c κs = search needs
 
 put-result-requires : tie.Need-put-result-requires
 put-result-requires c κs =
-    let pre = c .before .before .before .before .before .before .before .before .before .before .before .before .before .pre in
+    let start = c .before .before .before .before .before .before .before .before .before .before .before .before .before in
+    let bounds = start .pre .0 in
     let solve-job = c .before .before .before .before .before .before .before .solve-job in
-    let a = c .before .before .before .before .before .before .before .before .before .before .before .before .before .args in
     omega (
       arith,
-      (pre .1 .1 .1),
-      result-short (a .sizes) (pre .0) (solve-job .result) (solve-job .last .1 .0) (solve-job .last .1 .1 .0)
-          (job-success-of _ _ _ _ (solve-job .ensures)) (omega (
-            arith,
-            (solve-job .kept .1 .0),
-            (pre .1 .0),
-            triangle-small (a .sizes .order) (pre .0 .order),
-          ))
-          (omega (arith, (solve-job .kept .1 .1 .0), (pre .1 .1 .0), values-small (a .sizes .order) (a .sizes .count) (pre .0 .order) (pre .0 .count))),
+      result-short (start .args .sizes) bounds (solve-job .result) (solve-job .last .1 .0) (solve-job .last .1 .1 .0)
+          (job-success-of _ _ _ _ (solve-job .ensures)) (omega (arith, triangle-small _ (bounds .order)))
+          (omega (arith, values-small _ _ (bounds .order) (bounds .count))),
     )
 
 same-length : tie.Need-same-length

@@ -1,5 +1,5 @@
 -- `job::list_values` meets its contract. The memory has room for every job within the bounds. Assumes nothing.
-use Prim.Native.Nat.{_*_}
+use Prim.Native.Nat.{_*_, _≤_}
 use native.Mathlib.Omega.{arith}
 use mathlib.Core.Path.{sym, ap, _∙_}
 use lib.Ieee.{binary64, ofBits}
@@ -16,59 +16,43 @@ new-requires c κs = search needs
 triangle-requires : tie.Need-triangle-requires
 triangle-requires c κs = search needs
 
+-- the arrays have room for the values of the matrix and of the right-hand sides
+entries-fit : (c : tie.After-triangle) → c .triangle .result ≤ 2080
+entries-fit c =
+    let start = c .before .before .before .before in
+    omega (arith, ap triangle (c .before .new .ensures .0), triangle-small (start .args .sizes .order) (start .pre .0 .order))
+
+values-fit : (c : tie.Start) → c .args .sizes .order * c .args .sizes .count ≤ 1024
+values-fit c = values-small (c .args .sizes .order) (c .args .sizes .count) (c .pre .0 .order) (c .pre .0 .count)
+
 mul-values : tie.Need-mul-values
-mul-values c =
-    let a = c .before .before .before .before .before .args in
-    let pre = c .before .before .before .before .before .pre in
-    omega (arith, values-small (a .sizes .order) (a .sizes .count) (pre .0 .order) (pre .0 .count))
+mul-values c = omega (arith, values-fit (c .before .before .before .before .before))
 
 array-borrow-prefix-matrix : tie.Need-array-borrow-prefix-matrix
-array-borrow-prefix-matrix c =
-    let a = c .before .before .before .before .before .args in
-    let pre = c .before .before .before .before .before .pre in
-    omega (arith, (c .before .triangle .ensures), ap triangle (c .before .before .new .ensures .0), triangle-small (a .sizes .order) (pre .0 .order))
+array-borrow-prefix-matrix c = entries-fit (c .before)
 
 slice-aggregate-list-contents : tie.Need-slice-aggregate-list-contents
-slice-aggregate-list-contents c =
-    let a = c .before .before .before .before .before .before .args in
-    let pre = c .before .before .before .before .before .before .pre in
-    length-zeros 2080 (c .before .before .triangle .result) (ofBits binary64 0) (omega (
-      arith,
-      (c .before .before .triangle .ensures),
-      ap triangle (c .before .before .before .new .ensures .0),
-      triangle-small (a .sizes .order) (pre .0 .order),
-    ))
+slice-aggregate-list-contents c = length-zeros 2080 (c .before .before .triangle .result) (ofBits binary64 0) (entries-fit (c .before .before))
 
 array-borrow-prefix-rhs : tie.Need-array-borrow-prefix-rhs
-array-borrow-prefix-rhs c =
-    let a = c .before .before .before .before .before .before .args in
-    let pre = c .before .before .before .before .before .before .pre in
-    omega (arith, values-small (a .sizes .order) (a .sizes .count) (pre .0 .order) (pre .0 .count))
+array-borrow-prefix-rhs c = values-fit (c .before .before .before .before .before .before)
 
 slice-aggregate-list-contents-2 : tie.Need-slice-aggregate-list-contents-2
 slice-aggregate-list-contents-2 c =
-    let a = c .before .before .before .before .before .before .before .args in
-    let pre = c .before .before .before .before .before .before .before .pre in
-    length-zeros 1024 ((a .sizes .order) * (a .sizes .count)) (ofBits binary64 0)
-    (values-small (a .sizes .order) (a .sizes .count) (pre .0 .order) (pre .0 .count))
+    let start = c .before .before .before .before .before .before .before in
+    length-zeros 1024 (start .args .sizes .order * start .args .sizes .count) (ofBits binary64 0) (values-fit start)
 
 list-contents-requires : tie.Need-list-contents-requires
 list-contents-requires c κs =
-    let pre = c .before .before .before .before .before .before .before .before .pre in
-    let a = c .before .before .before .before .before .before .before .before .args in
-    let new = c .before .before .before .before .before .new in (
-      (pre .0),
+    let start = c .before .before .before .before .before .before .before .before in
+    let entries = c .before .before .before .before in (
+      start .pre .0,
       (
-        sym (length-zeros 2080 (c .before .before .before .before .triangle .result) (ofBits binary64 0) (omega (
-          arith,
-          (c .before .before .before .before .triangle .ensures),
-          ap triangle (new .ensures .0),
-          triangle-small (a .sizes .order) (pre .0 .order),
-        ))) ∙ ((c .before .before .before .before .triangle .ensures) ∙ ap triangle (new .ensures .0)),
+        sym (length-zeros 2080 (entries .triangle .result) (ofBits binary64 0) (entries-fit entries))
+            ∙ entries .triangle .ensures ∙ ap triangle (entries .before .new .ensures .0),
         (
-          sym (length-zeros 1024 ((a .sizes .order) * (a .sizes .count)) (ofBits binary64 0)
-              (values-small (a .sizes .order) (a .sizes .count) (pre .0 .order) (pre .0 .count))),
-          (pre .1),
+          sym (length-zeros 1024 (start .args .sizes .order * start .args .sizes .count) (ofBits binary64 0) (values-fit start)),
+          start .pre .1,
         ),
       ),
     )

@@ -20,7 +20,7 @@ enum-known-place : tie.Need-enum-known-place
 enum-known-place c = search needs
 
 put-end-requires : tie.Need-put-end-requires
-put-end-requires c κs = omega (arith, (c .before .before .before .before .before .if1 .left), end-short 13 (c .before .before .place .given .0 .0))
+put-end-requires c κs = omega (arith, end-short 13 (c .before .before .place .given .0 .0))
 
 enum-known-sizes : tie.Need-enum-known-sizes
 enum-known-sizes c = search needs

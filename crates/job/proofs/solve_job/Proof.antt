@@ -1,4 +1,5 @@
 -- `job::solve_job` meets its contract. A refusal of 7 or 8 is the job's result; else it is the pipeline's, with work memory lent from an array of zeros. Assumes nothing.
+use Prim.Native.Nat.{_≤_}
 use lib.Ieee.{binary64, ofBits}
 use Rattle.job.proofs.Listings.{length-zeros, ended-as, refused-by-7, refused-by-8, job-ran, work-small}
 use native.Mathlib.Omega.{arith}
@@ -36,26 +37,16 @@ new-requires c κs = search needs
 block-work-requires : tie.Need-block-work-requires
 block-work-requires c κs = search needs
 
+-- the array has room for the work memory that is needed
+work-fits : (c : tie.After-block-work) → c .block-work .result ≤ 4096
+work-fits c = omega (arith, work-small (c .before .new .result .order) (c .before .new .result .block) (omega arith))
+
 array-borrow-prefix-work : tie.Need-array-borrow-prefix-work
-array-borrow-prefix-work c =
-    let new = c .before .before .before .new in
-    let pre = c .before .before .before .before .before .before .before .before .before .before .before .before .before .before .pre in
-    omega (
-      arith,
-      (c .before .before .block-work .ensures),
-      work-small (new .result .order) (new .result .block) (omega (arith, (new .ensures .0), (pre .order))),
-    )
+array-borrow-prefix-work c = work-fits (c .before .before)
 
 slice-aggregate-blocked-pipeline : tie.Need-slice-aggregate-blocked-pipeline
 slice-aggregate-blocked-pipeline c =
-    let new = c .before .before .before .before .new in
-    let block-work = c .before .before .before .block-work in
-    let pre = c .before .before .before .before .before .before .before .before .before .before .before .before .before .before .before .pre in
-    length-zeros 4096 (block-work .result) (ofBits binary64 0) (omega (
-      arith,
-      (block-work .ensures),
-      work-small (new .result .order) (new .result .block) (omega (arith, (new .ensures .0), (pre .order))),
-    ))
+    length-zeros 4096 (c .before .before .before .block-work .result) (ofBits binary64 0) (work-fits (c .before .before .before))
 
 blocked-pipeline-requires : tie.Need-blocked-pipeline-requires
 blocked-pipeline-requires c κs = search needs
@@ -68,18 +59,21 @@ same-length-5 c = search needs
 
 returns-3 : tie.Need-returns-3
 returns-3 c =
-    let new = c .before .before .before .before .before .before .before .before .before .before .before .new in
-    let blocked-pipeline = c .before .before .before .before .before .before .blocked-pipeline in
+    let ended = c .before .before .before .before .before .before .blocked-pipeline in
     let block-work = c .before .before .before .before .before .before .before .before .before .before .block-work in
-    let check-finite = c .before .before .before .before .before .before .before .before .before .before .before .before .before .before .before .before .before .before .check-finite in
-    let check-finite2 = c .before .before .before .before .before .before .before .before .before .before .before .before .before .before .check-finite2 in
-    let pre = c .before .before .before .before .before .before .before .before .before .before .before .before .before .before .before .before .before .before .before .before .before .before .pre in
-    job-ran _ (check-finite .result) (check-finite2 .result)
-    (record { factorResult = (blocked-pipeline .result .factor); solverResult = (blocked-pipeline .result .solver); matrix = (blocked-pipeline .last .1 .1 .0); rhs = (blocked-pipeline .last .1 .1 .1 .0); work = (blocked-pipeline .last .1 .1 .1 .1 .0) }) (check-finite .ensures) (c .before .before .before .before .before .before .before .before .before .before .before .before .before .before .before .before .if1 .left) (check-finite2 .ensures) (c .before .before .before .before .before .before .before .before .before .before .before .before .if2 .left) (ended-as _ (new .result .order) (new .result .block) (block-work .result) _ (new .ensures .0) (new .ensures .1) (block-work .ensures) (omega (
-      arith,
-      (block-work .ensures),
-      work-small (new .result .order) (new .result .block) (omega (arith, (new .ensures .0), (pre .order))),
-    )) (blocked-pipeline .ensures))
+    let new = c .before .before .before .before .before .before .before .before .before .before .before .new in
+    let second = c .before .before .before .before .before .before .before .before .before .before .before .before in
+    let first = c .before .before .before .before .before .before .before .before .before .before .before .before .before .before .before .before in
+    job-ran _ (first .before .before .check-finite .result) (second .before .before .check-finite2 .result)
+    (record {
+      factorResult = ended .result .factor;
+      solverResult = ended .result .solver;
+      matrix = ended .last .1 .1 .0;
+      rhs = ended .last .1 .1 .1 .0;
+      work = ended .last .1 .1 .1 .1 .0;
+    }) (first .before .before .check-finite .ensures) (first .if1 .left) (second .before .before .check-finite2 .ensures) (second .if2 .left)
+    (ended-as _ (new .result .order) (new .result .block) (block-work .result) _ (new .ensures .0) (new .ensures .1) (block-work .ensures)
+    (work-fits (c .before .before .before .before .before .before .before .before .before .before)) (ended .ensures))
 
 pub solve-job-spec : {M : Type 1} → statement M
 solve-job-spec =

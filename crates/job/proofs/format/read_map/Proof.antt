@@ -17,7 +17,7 @@ add-bytes : tie.Need-add-bytes
 add-bytes c =
     let a = c .before .before .before .args in
     let pre = c .before .before .before .pre in
-    omega (arith, triangle-small (a .n) (pre), (c .triangle .ensures), ap triangle (c .before .new .ensures .0))
+    omega (arith, triangle-small (a .n) (pre), ap triangle (c .before .new .ensures .0))
 
 returns : tie.Need-returns
 returns c =

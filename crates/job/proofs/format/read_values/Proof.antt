@@ -42,14 +42,7 @@ enum-known-v : tie.Need-enum-known-v Inv-loop μ-loop
 enum-known-v c = search needs
 
 mul-out : tie.Need-mul-out Inv-loop μ-loop
-mul-out c =
-    let l = c .before .before .before .before .before .loop in
-    omega (
-      arith,
-      (l .inv .kept),
-      (c .before .before .before .before .loop-test .taken),
-      (c .before .before .before .before .before .before .before .before .good),
-    )
+mul-out c = omega arith
 
 slice-write-out : tie.Need-slice-write-out Inv-loop μ-loop
 slice-write-out c = omega arith

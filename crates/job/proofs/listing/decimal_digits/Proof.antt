@@ -17,16 +17,16 @@ loop-holds : tie.Need-loop-holds Inv-loop μ-loop
 loop-holds c = digits-none (c .before .args .n) (c .before .args .buffer .now) (c .before .fits .n .fits) (c .before .pre)
 
 sub-i : tie.Need-sub-i Inv-loop μ-loop
-sub-i c = omega (arith, c .before .loop .inv .some)
+sub-i c = omega arith
 
 digit-requires : tie.Need-digit-requires Inv-loop μ-loop
 digit-requires c κs = omega arith
 
 slice-write-buffer : tie.Need-slice-write-buffer Inv-loop μ-loop
-slice-write-buffer c = omega (arith, c .before .before .loop .inv .some, c .before .before .loop .inv .size, c .before .before .loop .inv .within)
+slice-write-buffer c = omega arith
 
 loop-less : tie.Need-loop-less Inv-loop μ-loop
-loop-less c = omega (arith, c .before .loop-test .taken)
+loop-less c = omega arith
 
 loop-again : tie.Need-loop-again Inv-loop μ-loop
 loop-again c =
@@ -35,13 +35,13 @@ loop-again c =
     (c .digit .result) (c .before .loop-test .taken) (c .digit .ensures)
 
 sub-i-2 : tie.Need-sub-i-2 Inv-loop μ-loop
-sub-i-2 c = omega (arith, c .before .loop .inv .some)
+sub-i-2 c = omega arith
 
 digit-requires-2 : tie.Need-digit-requires-2 Inv-loop μ-loop
 digit-requires-2 c κs = omega arith
 
 slice-write-buffer-2 : tie.Need-slice-write-buffer-2 Inv-loop μ-loop
-slice-write-buffer-2 c = omega (arith, c .before .before .loop .inv .some, c .before .before .loop .inv .size, c .before .before .loop .inv .within)
+slice-write-buffer-2 c = omega arith
 
 same-length : tie.Need-same-length Inv-loop μ-loop
 same-length c =
@@ -52,10 +52,7 @@ same-length c =
 returns : tie.Need-returns Inv-loop μ-loop
 returns c =
     let a = c .before .before .before .before .args in (
-      omega (
-        arith,
-        c .before .before .loop .inv .within,
-      ),
+      omega arith,
       digits-end (a .n) (c .before .before .loop .left) (c .before .before .loop .i) (c .before .before .loop .buffer) (c .before .before .loop .inv)
           (c .digit2 .result) (c .before .loop-test .left) (c .digit2 .ensures),
     )

@@ -11,47 +11,31 @@ slice-aggregate-put-text c = search needs
 put-text-requires : tie.Need-put-text-requires
 put-text-requires c κs =
     let a = c .before .before .before .args in
-    let pre = c .before .before .before .pre in
-    omega (arith, (pre), length-endLine (a .code) (a .place))
+    omega (arith, length-endLine (a .code) (a .place))
 
 put-number-requires : tie.Need-put-number-requires
 put-number-requires c κs =
     let a = c .before .before .before .before .before .before .before .args in
-    let put-text = c .before .before .before .put-text in
-    let pre = c .before .before .before .before .before .before .before .pre in
-    omega (arith, (pre), length-endLine (a .code) (a .place), (put-text .ensures .next), (put-text .kept .0))
+    omega (arith, length-endLine (a .code) (a .place))
 
 put-number-requires-2 : tie.Need-put-number-requires-2
 put-number-requires-2 c κs =
     let a = c .before .before .before .before .before .before .before .before .before .before .before .args in
-    let put-text = c .before .before .before .before .before .before .before .put-text in
-    let put-number = c .before .before .before .put-number in
-    let pre = c .before .before .before .before .before .before .before .before .before .before .before .pre in
-    omega (
-      arith,
-      (pre),
-      length-endLine (a .code) (a .place),
-      (put-text .ensures .next),
-      (put-text .kept .0),
-      (put-number .ensures .next),
-      (put-number .kept .0),
-      length-number (a .code) 32,
-    )
+    omega (arith, length-endLine (a .code) (a .place), length-number (a .code) 32)
 
 same-length : tie.Need-same-length
 same-length c = search needs
 
 returns : tie.Need-returns
 returns c =
-    let a = c .before .before .before .before .before .before .before .before .before .before .before .before .before .before .args in
-    let pre = c .before .before .before .before .before .before .before .before .before .before .before .before .before .before .pre in
-    as-text (end-text (a .code) (a .place)) (then (then
-    (c .before .before .before .before .before .before .before .before .before .before .put-text .ensures)
-    (c .before .before .before .before .before .before .put-number .ensures) (omega (
-      arith,
-      (pre),
-      length-endLine (a .code) (a .place),
-    ))) (c .before .before .put-number2 .ensures) (end-fits-code (a .at) (a .code) (a .place) (a .out .now) (pre)))
+    let second = c .before .before in
+    let first = second .before .before .before .before in
+    let head = first .before .before .before .before in
+    let start = head .before .before .before .before in
+    let a = start .args in
+    as-text (end-text (a .code) (a .place))
+    (then (then (head .put-text .ensures) (first .put-number .ensures) (omega (arith, length-endLine (a .code) (a .place))))
+    (second .put-number2 .ensures) (end-fits-code (a .at) (a .code) (a .place) (a .out .now) (start .pre)))
 
 pub put-end-spec : {M : Type 1} → statement M
 put-end-spec =

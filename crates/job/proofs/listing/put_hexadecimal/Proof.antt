@@ -32,18 +32,14 @@ hex-digit-requires : tie.Need-hex-digit-requires Inv-loop μ-loop
 hex-digit-requires c κs = omega arith
 
 add-out : tie.Need-add-out Inv-loop μ-loop
-add-out c = omega (arith, (c .before .before .before .before .before .pre))
+add-out c = omega arith
 
 slice-write-out : tie.Need-slice-write-out Inv-loop μ-loop
 slice-write-out c =
-    let pre = c .before .before .before .before .before .pre in
-    let a = c .before .before .before .before .before .args in
-    omega (
-      arith,
-      (pre),
-      length-hex (a .out .now) (c .before .before .loop .out) (a .at) (c .before .before .before .bits-of .result) (c .before .before .loop .i) (pre)
-          (c .before .before .loop .inv .0) (c .before .before .loop .inv .1),
-    )
+    let start = c .before .before .before .before .before in
+    let l = c .before .before .loop in
+    let bits = c .before .before .before .bits-of .result in
+    omega (arith, length-hex (start .args .out .now) (l .out) (start .args .at) bits (l .i) (start .pre) (l .inv .0) (l .inv .1))
 
 add-i : tie.Need-add-i Inv-loop μ-loop
 add-i c = omega arith
@@ -53,15 +49,16 @@ loop-less c = omega arith
 
 loop-again : tie.Need-loop-again Inv-loop μ-loop
 loop-again c =
-    let a = c .before .before .before .before .before .args in
-    let pre = c .before .before .before .before .before .pre in (
+    let start = c .before .before .before .before .before in
+    let l = c .before .before .loop in
+    let bits = c .before .before .before .bits-of .result in (
       omega arith,
-      hex-turn (a .out .now) (c .before .before .loop .out) (a .at) (c .before .before .before .bits-of .result)
-          (c .before .before .loop .i) (c .hex-digit .result) (pre) (c .before .loop-test .taken) (c .before .before .loop .inv .1) (c .hex-digit .ensures),
+      hex-turn (start .args .out .now) (l .out) (start .args .at) bits (l .i) (c .hex-digit .result) (start .pre) (c .before .loop-test .taken)
+          (l .inv .1) (c .hex-digit .ensures),
     )
 
 add-result : tie.Need-add-result Inv-loop μ-loop
-add-result c = omega (arith, (c .before .before .before .before .pre))
+add-result c = omega arith
 
 same-length : tie.Need-same-length Inv-loop μ-loop
 same-length c =

@@ -11,69 +11,38 @@ slice-aggregate-put-text c = search needs
 put-text-requires : tie.Need-put-text-requires
 put-text-requires c κs =
     let a = c .before .before .before .args in
-    let pre = c .before .before .before .pre in
-    omega (arith, (pre), length-jobLine (a .n) (a .b) (a .m))
+    omega (arith, length-jobLine (a .n) (a .b) (a .m))
 
 put-number-requires : tie.Need-put-number-requires
 put-number-requires c κs =
     let a = c .before .before .before .before .before .before .before .args in
-    let put-text = c .before .before .before .put-text in
-    let pre = c .before .before .before .before .before .before .before .pre in
-    omega (arith, (pre), length-jobLine (a .n) (a .b) (a .m), (put-text .ensures .next), (put-text .kept .0))
+    omega (arith, length-jobLine (a .n) (a .b) (a .m))
 
 put-number-requires-2 : tie.Need-put-number-requires-2
 put-number-requires-2 c κs =
     let a = c .before .before .before .before .before .before .before .before .before .before .before .args in
-    let put-text = c .before .before .before .before .before .before .before .put-text in
-    let put-number = c .before .before .before .put-number in
-    let pre = c .before .before .before .before .before .before .before .before .before .before .before .pre in
-    omega (
-      arith,
-      (pre),
-      length-jobLine (a .n) (a .b) (a .m),
-      (put-text .ensures .next),
-      (put-text .kept .0),
-      (put-number .ensures .next),
-      (put-number .kept .0),
-      length-number (a .n) 32,
-    )
+    omega (arith, length-jobLine (a .n) (a .b) (a .m), length-number (a .n) 32)
 
 put-number-requires-3 : tie.Need-put-number-requires-3
 put-number-requires-3 c κs =
     let a = c .before .before .before .before .before .before .before .before .before .before .before .before .before .before .before .args in
-    let put-text = c .before .before .before .before .before .before .before .before .before .before .before .put-text in
-    let put-number = c .before .before .before .before .before .before .before .put-number in
-    let put-number2 = c .before .before .before .put-number2 in
-    let pre = c .before .before .before .before .before .before .before .before .before .before .before .before .before .before .before .pre in
-    omega (
-      arith,
-      (pre),
-      length-jobLine (a .n) (a .b) (a .m),
-      (put-text .ensures .next),
-      (put-text .kept .0),
-      (put-number .ensures .next),
-      (put-number .kept .0),
-      (put-number2 .ensures .next),
-      (put-number2 .kept .0),
-      length-number (a .n) 32,
-      length-number (a .b) 32,
-    )
+    omega (arith, length-jobLine (a .n) (a .b) (a .m), length-number (a .n) 32, length-number (a .b) 32)
 
 same-length : tie.Need-same-length
 same-length c = search needs
 
 returns : tie.Need-returns
 returns c =
-    let a = c .before .before .before .before .before .before .before .before .before .before .before .before .before .before .before .before .before .before .args in
-    let pre = c .before .before .before .before .before .before .before .before .before .before .before .before .before .before .before .before .before .before .pre in
-    as-text (job-text (a .n) (a .b) (a .m)) (then (then (then
-    (c .before .before .before .before .before .before .before .before .before .before .before .before .before .before .put-text .ensures)
-    (c .before .before .before .before .before .before .before .before .before .before .put-number .ensures) (omega (
-      arith,
-      (pre),
-      length-jobLine (a .n) (a .b) (a .m),
-    ))) (c .before .before .before .before .before .before .put-number2 .ensures) (job-fits-order (a .at) (a .n) (a .b) (a .m) (a .out .now) (pre)))
-    (c .before .before .put-number3 .ensures) (job-fits-block (a .at) (a .n) (a .b) (a .m) (a .out .now) (pre)))
+    let third = c .before .before in
+    let second = third .before .before .before .before in
+    let first = second .before .before .before .before in
+    let head = first .before .before .before .before in
+    let start = head .before .before .before .before in
+    let a = start .args in
+    as-text (job-text (a .n) (a .b) (a .m))
+    (then (then (then (head .put-text .ensures) (first .put-number .ensures) (omega (arith, length-jobLine (a .n) (a .b) (a .m))))
+    (second .put-number2 .ensures) (job-fits-order (a .at) (a .n) (a .b) (a .m) (a .out .now) (start .pre)))
+    (third .put-number3 .ensures) (job-fits-block (a .at) (a .n) (a .b) (a .m) (a .out .now) (start .pre)))
 
 pub put-job-spec : {M : Type 1} → statement M
 put-job-spec =

@@ -24,30 +24,15 @@ part-put-text-end c = search needs
 
 put-text-requires : tie.Need-put-text-requires
 put-text-requires c κs =
-    let decimal-digits = c .before .before .before .before .decimal-digits in
-    let pre = c .before .before .before .before .before .before .before .pre in
-    let a = c .before .before .before .before .before .before .before .args in
-    omega (
-      arith,
-      (pre),
-      ap length (tail-text (decimal-digits .last .0) (decimal-digits .result) (a .n) (decimal-digits .kept .0) (decimal-digits .ensures .0)
-          (decimal-digits .ensures .1)),
-    )
+    let digits = c .before .before .before .before .decimal-digits in
+    let n = c .before .before .before .before .before .before .before .args .n in
+    omega (arith, ap length (tail-text (digits .last .0) (digits .result) n (digits .kept .0) (digits .ensures .0) (digits .ensures .1)))
 
 put-byte-requires : tie.Need-put-byte-requires
 put-byte-requires c κs =
-    let decimal-digits = c .before .before .before .before .before .before .before .before .decimal-digits in
-    let put-text = c .before .before .before .put-text in
-    let pre = c .before .before .before .before .before .before .before .before .before .before .before .pre in
-    let a = c .before .before .before .before .before .before .before .before .before .before .before .args in
-    omega (
-      arith,
-      (pre),
-      (put-text .ensures .next),
-      (put-text .kept .0),
-      ap length (tail-text (decimal-digits .last .0) (decimal-digits .result) (a .n) (decimal-digits .kept .0) (decimal-digits .ensures .0)
-          (decimal-digits .ensures .1)),
-    )
+    let digits = c .before .before .before .before .before .before .before .before .decimal-digits in
+    let n = c .before .before .before .before .before .before .before .before .before .before .before .args .n in
+    omega (arith, ap length (tail-text (digits .last .0) (digits .result) n (digits .kept .0) (digits .ensures .0) (digits .ensures .1)))
 
 same-length : tie.Need-same-length
 same-length c = search needs
@@ -56,13 +41,9 @@ returns : tie.Need-returns
 returns c =
     let decimal-digits = c .before .before .before .before .before .before .before .before .before .before .before .decimal-digits in
     let a = c .before .before .before .before .before .before .before .before .before .before .before .before .before .before .args in
-    let pre = c .before .before .before .before .before .before .before .before .before .before .before .before .before .before .pre in
     then (as-text (tail-text (decimal-digits .last .0) (decimal-digits .result) (a .n) (decimal-digits .kept .0) (decimal-digits .ensures .0)
     (decimal-digits .ensures .1)) (c .before .before .before .before .before .before .put-text .ensures)) (c .before .before .put-byte .ensures)
-    (omega (
-      arith,
-      (pre),
-    ))
+    (omega arith)
 
 pub put-number-spec : {M : Type 1} → statement M
 put-number-spec =

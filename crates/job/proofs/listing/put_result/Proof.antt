@@ -14,14 +14,8 @@ put-job-requires c κs =
 put-end-requires : tie.Need-put-end-requires
 put-end-requires c κs =
     let a = c .before .before .before .before .before .before .before .before .before .before .args in
-    let put-job = c .before .before .before .before .before .put-job in
     let pre = c .before .before .before .before .before .before .before .before .before .before .pre in
-    omega (
-      arith,
-      refused-fits (a .matrix .now) (a .rhs .now) (a .sizes) (a .result) (a .out .now) (pre) (c .before .if1 .taken),
-      (put-job .ensures .next),
-      (put-job .kept .0),
-    )
+    omega (arith, refused-fits (a .matrix .now) (a .rhs .now) (a .sizes) (a .result) (a .out .now) (pre) (c .before .if1 .taken))
 
 same-length : tie.Need-same-length
 same-length c = search needs
@@ -39,44 +33,31 @@ returns c =
 put-solution-requires : tie.Need-put-solution-requires
 put-solution-requires c κs =
     let a = c .before .before .before .before .before .before .before .before .before .before .args in
-    let put-job = c .before .before .before .before .before .put-job in
     let pre = c .before .before .before .before .before .before .before .before .before .before .pre in
-    omega (
-      arith,
-      accepted-fits (a .matrix .now) (a .rhs .now) (a .sizes) (a .result) (a .out .now) (pre) (c .before .if1 .left),
-      (put-job .ensures .next),
-      (put-job .kept .0),
-    )
+    omega (arith, accepted-fits (a .matrix .now) (a .rhs .now) (a .sizes) (a .result) (a .out .now) (pre) (c .before .if1 .left))
 
 put-end-requires-2 : tie.Need-put-end-requires-2
 put-end-requires-2 c κs =
-    let a = c .before .before .before .before .before .before .before .before .before .before .before .before .before .before .args in
-    let put-job = c .before .before .before .before .before .before .before .before .before .put-job in
-    let put-solution = c .before .before .before .put-solution in
-    let pre = c .before .before .before .before .before .before .before .before .before .before .before .before .before .before .pre in
-    omega (
-      arith,
-      accepted-fits (a .matrix .now) (a .rhs .now) (a .sizes) (a .result) (a .out .now) (pre) (c .before .before .before .before .before .if1 .left),
-      (put-job .ensures .next),
-      (put-job .kept .0),
-      (put-solution .ensures .next),
-      (put-solution .kept .0),
-    )
+    let start = c .before .before .before .before .before .before .before .before .before .before .before .before .before .before in
+    let a = start .args in
+    let accepted = c .before .before .before .before .before .if1 .left in
+    omega (arith, accepted-fits (a .matrix .now) (a .rhs .now) (a .sizes) (a .result) (a .out .now) (start .pre) accepted)
 
 same-length-2 : tie.Need-same-length-2
 same-length-2 c = search needs
 
 returns-2 : tie.Need-returns-2
 returns-2 c =
-    let a = c .before .before .before .before .before .before .before .before .before .before .before .before .before .before .before .before .before .args in
-    let if1 = c .before .before .before .before .before .before .before .before .if1 in
-    let pre = c .before .before .before .before .before .before .before .before .before .before .before .before .before .before .before .before .before .pre in
-    as-text (accepted-lines (a .matrix .now) (a .rhs .now) (a .sizes) (a .result) (if1 .left))
-    (then (then (c .before .before .before .before .before .before .before .before .before .before .before .before .put-job .ensures)
-    (c .before .before .before .before .before .before .put-solution .ensures) (omega (
-      arith,
-      job-fits (a .matrix .now) (a .rhs .now) (a .sizes) (a .result) (a .out .now) (pre),
-    ))) (c .before .before .put-end2 .ensures) (two-fit (a .matrix .now) (a .rhs .now) (a .sizes) (a .result) (a .out .now) (pre) (if1 .left)))
+    let end = c .before .before in
+    let solution = end .before .before .before .before in
+    let job = solution .before .before .before .before .before .before in
+    let start = job .before .before .before .before .before in
+    let a = start .args in
+    let accepted = solution .before .before .if1 .left in
+    as-text (accepted-lines (a .matrix .now) (a .rhs .now) (a .sizes) (a .result) accepted)
+    (then (then (job .put-job .ensures) (solution .put-solution .ensures)
+    (omega (arith, job-fits (a .matrix .now) (a .rhs .now) (a .sizes) (a .result) (a .out .now) (start .pre))))
+    (end .put-end2 .ensures) (two-fit (a .matrix .now) (a .rhs .now) (a .sizes) (a .result) (a .out .now) (start .pre) accepted))
 
 pub put-result-spec : {M : Type 1} → statement M
 put-result-spec =

@@ -14,26 +14,16 @@ slice-aggregate-put-values c = search needs
 put-values-requires : tie.Need-put-values-requires
 put-values-requires c κs =
     let a = c .before .before .before .before .before .args in
-    let pre = c .before .before .before .before .before .pre in
-    (refl, omega (arith, (pre), length-solutionLines (a .matrix .now) (a .rhs .now)))
+    (refl, omega (arith, length-solutionLines (a .matrix .now) (a .rhs .now)))
 
 slice-aggregate-put-values-2 : tie.Need-slice-aggregate-put-values-2
 slice-aggregate-put-values-2 c = search needs
 
 put-values-requires-2 : tie.Need-put-values-requires-2
 put-values-requires-2 c κs =
-    let a = c .before .before .before .before .before .before .before .before .before .before .args in
-    let put-values = c .before .before .before .before .put-values in
-    let pre = c .before .before .before .before .before .before .before .before .before .before .pre in (
+    let a = c .before .before .before .before .before .before .before .before .before .before .args in (
       refl,
-      omega (
-        arith,
-        (pre),
-        length-solutionLines (a .matrix .now) (a .rhs .now),
-        (put-values .ensures .next),
-        (put-values .kept .0),
-        length-valueLines (70 ∷ 32 ∷ []) (a .matrix .now) refl,
-      ),
+      omega (arith, length-solutionLines (a .matrix .now) (a .rhs .now), length-valueLines (70 ∷ 32 ∷ []) (a .matrix .now) refl),
     )
 
 same-length : tie.Need-same-length
@@ -43,13 +33,8 @@ returns : tie.Need-returns
 unfolding solutionLines
 returns c =
     let a = c .before .before .before .before .before .before .before .before .before .before .before .before .before .args in
-    let pre = c .before .before .before .before .before .before .before .before .before .before .before .before .before .pre in
-    then (c .before .before .before .before .before .before .before .put-values .ensures) (c .before .before .put-values2 .ensures) (omega (
-      arith,
-      (pre),
-      length-solutionLines (a .matrix .now) (a .rhs .now),
-      length-valueLines (70 ∷ 32 ∷ []) (a .matrix .now) refl,
-    ))
+    then (c .before .before .before .before .before .before .before .put-values .ensures) (c .before .before .put-values2 .ensures)
+    (omega (arith, length-solutionLines (a .matrix .now) (a .rhs .now), length-valueLines (70 ∷ 32 ∷ []) (a .matrix .now) refl))
 
 pub put-solution-spec : {M : Type 1} → statement M
 put-solution-spec =

@@ -21,18 +21,14 @@ shared-slice-read-out : tie.Need-shared-slice-read-out Inv-loop μ-loop
 shared-slice-read-out c = omega arith
 
 add-out : tie.Need-add-out Inv-loop μ-loop
-add-out c = omega (arith, (c .before .before .before .pre))
+add-out c = omega arith
 
 slice-write-out : tie.Need-slice-write-out Inv-loop μ-loop
 slice-write-out c =
-    let a = c .before .before .before .args in
-    let pre = c .before .before .before .pre in
-    omega (
-      arith,
-      (pre),
-      length-copied (a .out .now) (a .at) (a .text .now) (pre) (c .before .before .loop .out) (c .before .before .loop .i)
-          (c .before .before .loop .inv .1) (c .before .before .loop .inv .0),
-    )
+    let start = c .before .before .before in
+    let a = start .args in
+    let l = c .before .before .loop in
+    omega (arith, length-copied (a .out .now) (a .at) (a .text .now) (start .pre) (l .out) (l .i) (l .inv .1) (l .inv .0))
 
 add-i : tie.Need-add-i Inv-loop μ-loop
 add-i c = omega arith
@@ -50,7 +46,7 @@ loop-again c =
     )
 
 add-result : tie.Need-add-result Inv-loop μ-loop
-add-result c = omega (arith, (c .before .before .pre))
+add-result c = omega arith
 
 same-length : tie.Need-same-length Inv-loop μ-loop
 same-length c =

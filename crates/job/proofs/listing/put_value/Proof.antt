@@ -14,20 +14,8 @@ put-hexadecimal-requires c κs = search needs
 
 put-byte-requires : tie.Need-put-byte-requires
 put-byte-requires c κs =
-    let pre = c .before .before .before .before .before .before .before .before .before .before .before .pre in
-    let put-text = c .before .before .before .before .before .before .before .put-text in
-    let put-hexadecimal = c .before .before .before .put-hexadecimal in
     let a = c .before .before .before .before .before .before .before .before .before .before .before .args in
-    omega (
-      arith,
-      (pre .0),
-      (pre .1),
-      (put-text .ensures .next),
-      (put-text .kept .0),
-      (put-hexadecimal .ensures .next),
-      (put-hexadecimal .kept .0),
-      length-hexadecimal (a .v),
-    )
+    omega (arith, length-hexadecimal (a .v))
 
 same-length : tie.Need-same-length
 same-length c = search needs
@@ -35,14 +23,11 @@ same-length c = search needs
 returns : tie.Need-returns
 unfolding valueLine
 returns c =
-    let pre = c .before .before .before .before .before .before .before .before .before .before .before .before .before .before .pre in
-    let a = c .before .before .before .before .before .before .before .before .before .before .before .before .before .before .args in
+    let start = c .before .before .before .before .before .before .before .before .before .before .before .before .before .before in
+    let a = start .args in
     then (then (c .before .before .before .before .before .before .before .before .before .before .put-text .ensures)
-    (c .before .before .before .before .before .before .put-hexadecimal .ensures) (omega (
-      arith,
-      (pre .0),
-      (pre .1),
-    ))) (c .before .before .put-byte .ensures) (length-join (a .at) (a .head .now) (a .v) (a .out .now) (pre .0) (pre .1))
+    (c .before .before .before .before .before .before .put-hexadecimal .ensures) (omega arith)) (c .before .before .put-byte .ensures)
+    (length-join (a .at) (a .head .now) (a .v) (a .out .now) (start .pre .0) (start .pre .1))
 
 pub put-value-spec : {M : Type 1} → statement M
 put-value-spec =

@@ -20,7 +20,7 @@ loop-holds c =
     (omega arith, refl, lines-none (a .head .now) (a .values .now) (a .at) (a .out .now))
 
 mul-put-value : tie.Need-mul-put-value Inv-loop μ-loop
-mul-put-value c = omega (arith, (c .before .before .before .before .before .before .good))
+mul-put-value c = omega arith
 
 shared-slice-read-put-value : tie.Need-shared-slice-read-put-value Inv-loop μ-loop
 shared-slice-read-put-value c = omega arith
@@ -30,7 +30,7 @@ put-value-requires c κs =
     let pre = c .before .before .before .before .before .before .before .pre in
     let l = c .before .before .before .loop in
     let a = c .before .before .before .before .before .before .before .args in
-    ((pre .0), omega (arith, (pre .1), (l .inv .2 .next), (l .inv .1), length-lines (a .head .now) (a .values .now) (pre .0) (l .k)))
+    ((pre .0), omega (arith, length-lines (a .head .now) (a .values .now) (pre .0) (l .k)))
 
 add-k : tie.Need-add-k Inv-loop μ-loop
 add-k c = omega arith

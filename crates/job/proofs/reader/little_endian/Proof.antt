@@ -36,15 +36,10 @@ wide-requires c κs = search needs
 add-value : tie.Need-add-value Inv-loop μ-loop
 add-value c =
     let l = c .before .before .before .loop in
-    let a = c .before .before .before .before .before .args in
-    let pre = c .before .before .before .before .before .pre in
-    record {
-      fits = turn-fits (a .part .now) (l .value) (l .i) (pre) (c .before .before .loop-test .taken) (l .inv) (c .wide .result) (omega (
-        arith,
-        c .wide .ensures,
-        c .before .shared-slice-known2 .given (l .i - 1),
-      ));
-    }
+    let start = c .before .before .before .before .before in
+    let byte = c .before .shared-slice-known2 .given (l .i - 1) in
+    let more = c .before .before .loop-test .taken in
+    record { fits = turn-fits (start .args .part .now) (l .value) (l .i) (start .pre) more (l .inv) (c .wide .result) (omega arith) }
 
 loop-less : tie.Need-loop-less Inv-loop μ-loop
 loop-less c = omega arith
@@ -52,13 +47,10 @@ loop-less c = omega arith
 loop-again : tie.Need-loop-again Inv-loop μ-loop
 loop-again c =
     let l = c .before .before .before .loop in
-    let a = c .before .before .before .before .before .args in
-    let pre = c .before .before .before .before .before .pre in
-    turn (a .part .now) (l .value) (l .i) (pre) (c .before .before .loop-test .taken) (l .inv) (c .wide .result) (omega (
-      arith,
-      c .wide .ensures,
-      c .before .shared-slice-known2 .given (l .i - 1),
-    )) (c .wide .ensures)
+    let start = c .before .before .before .before .before in
+    let byte = c .before .shared-slice-known2 .given (l .i - 1) in
+    let more = c .before .before .loop-test .taken in
+    turn (start .args .part .now) (l .value) (l .i) (start .pre) more (l .inv) (c .wide .result) (omega arith) (c .wide .ensures)
 
 returns : tie.Need-returns Inv-loop μ-loop
 returns c =
