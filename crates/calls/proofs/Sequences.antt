@@ -1,15 +1,15 @@
 -- Laws of specs/Sequences.antt: lengths and elements of grown lists, and what `all` says of each element. Assumes nothing.
 use Prim.Native.Nat.{ℕ, zero, suc, _+_, _≤_, _<_}
-use native.Mathlib.Nat.{add-zero, add-suc}
+use native.Mathlib.Nat.{add-zero, add-suc, zero-add, suc-add}
 use native.Mathlib.Numerals.{add-one}
 use native.Mathlib.Omega.{arith}
 use native.Mathlib.Decide.{decLt}
 use mathlib.Core.Path.{_≡_, refl, sym, ap, ap₂, _∙_}
-use mathlib.Core.Bool.{Bool, _&&_, and-assoc}
+use mathlib.Core.Bool.{Bool, _&&_, and-true, and-assoc}
 use mathlib.Core.List.{List, [], _∷_, _++_, append-assoc, append-nil}
 use lib.Dec.{T}
-use lib.ListN.{length, getD, take, length-append, List·getD-append}
-use lib.Seq.{getD-at, ext-getD, take-append-le, take-all}
+use lib.ListN.{length, getD, take, drop, length-append, List·getD-append}
+use lib.Seq.{getD-at, ext-getD, take-append-le, take-all, take-suc, take-nil, drop-nil}
 use lib.Ieee.Fits.{and-i, and-l, and-r}
 use Rattle.calls.specs.Sequences.{grow, tabulate, all}
 
@@ -78,6 +78,18 @@ module _ {A : Type 0} (test : A → Bool) where
   unfolding all
   all-append [] ys = refl
   all-append (x ∷ xs) ys = rw (all-append xs ys) (sym (and-assoc (test x) (all test xs) (all test ys)))
+
+  pub all-take : (xs : List A) (i : ℕ) (d : A) → i < length xs → all test (take (i + 1) xs) ≡ all test (take i xs) && test (getD xs i d)
+  unfolding all
+  all-take xs i d h =
+      rw (add-one i, take-suc xs i d h)
+      (all-append (take i xs) (getD xs i d ∷ []) ∙ ap (λ (b : Bool). all test (take i xs) && b) (and-true (test (getD xs i d))))
+
+  pub all-parts : (xs : List A) (a b : ℕ) → all test (take (a + b) xs) ≡ all test (take a xs) && all test (take b (drop a xs))
+  unfolding all
+  all-parts xs zero b = rw zero-add
+  all-parts [] (suc a) b = rw (take-nil (suc a + b), take-nil (suc a), drop-nil (suc a), take-nil b)
+  all-parts (x ∷ xs) (suc a) b = rw suc-add (rw (all-parts xs a b) (sym (and-assoc (test x) (all test (take a xs)) (all test (take b (drop a xs))))))
 
   pub all-at : (xs : List A) → T (all test xs) → (i : ℕ) (d : A) → i < length xs → T (test (getD xs i d))
   unfolding all

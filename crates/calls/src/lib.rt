@@ -1,6 +1,7 @@
 // What the six calls share: their kinds, their result, and the two loops over a part of memory; the checks before any work are in rules.rt.
 ghost use mathlib.Core.Path.{_≡_};
-ghost use lib.ListN.{length, replicate};
+ghost use Prim.Native.Nat.{_*_, _≤_};
+ghost use lib.ListN.{length, take, replicate};
 ghost use Rattle.binary64.specs.Kinds.{finite, zero64};
 ghost use Rattle.calls.specs.Sequences.{all};
 ghost use Rattle.calls.specs.Refusals as Refusals;
@@ -50,7 +51,7 @@ pub fn accepted(r: CallResult) -> bool
 }
 
 // Every value is tested, so that the loop has no branch.
-pub fn all_finite(values: &[f64]) -> bool
+fn each_finite(values: &[f64]) -> bool
     ensures { λ r. ⌜ r ≡ all finite (now (values .entry)) ⌝ }
 {
     let mut passed = true;
@@ -60,6 +61,29 @@ pub fn all_finite(values: &[f64]) -> bool
         k += 1;
     }
     passed
+}
+
+// The same of the first four quarters, side by side: memory delivers four streams faster than one.
+fn quarters_finite(values: &[f64], quarter: usize) -> bool
+    requires { ⌜ 4 * quarter ≤ length (now values) ⌝ }
+    ensures { λ r. ⌜ r ≡ all finite (take (4 * quarter) (now (values .entry))) ⌝ }
+{
+    let mut passed = true;
+    let mut k = 0;
+    while k < quarter {
+        let upper = binary64::is_finite(values[2 * quarter + k]) & binary64::is_finite(values[3 * quarter + k]);
+        passed = passed & (binary64::is_finite(values[k]) & (binary64::is_finite(values[quarter + k]) & upper));
+        k += 1;
+    }
+    passed
+}
+
+pub fn all_finite(values: &[f64]) -> bool
+    ensures { λ r. ⌜ r ≡ all finite (now (values .entry)) ⌝ }
+{
+    let quarter = values.len() / 4;
+    let rest = each_finite(&values[4 * quarter..]);
+    quarters_finite(values, quarter) & rest
 }
 
 pub fn clear(part: &mut [f64])

@@ -1,74 +1,55 @@
--- `calls::all_finite` meets its contract. The loop's invariant: `passed` says whether the first k values are finite. The measure is what is left of
--- the length. Assumes nothing.
-use Prim.Native.Nat.{ℕ, _+_, _-_, _≤_, _<_}
-use native.Mathlib.Numerals.{add-one}
+-- `calls::all_finite` meets its contract. Assumes nothing.
+use Prim.Native.Nat.{_+_, _*_, _/_, _-_}
 use native.Mathlib.Omega.{arith}
-use mathlib.Core.Path.{_≡_, refl, ap, _∙_}
-use mathlib.Core.Bool.{Bool, _&&_, and-true}
-use mathlib.Core.List.{List, [], _∷_}
-use borrow.Author.Needs.{needs}
-use lib.ListN.{length, getD, take}
-use lib.Seq.{take-suc, take-all}
-use lib.Ieee.{nan}
+use mathlib.Core.Path.{sym, ap, ap₂, _∙_}
+use mathlib.Core.Bool.{_&&_}
+use lib.ListN.{length}
+use lib.Seq.{take-all}
 use Rattle.binary64.specs.Kinds.{finite}
 use Rattle.calls.specs.Sequences.{all}
-use Rattle.calls.proofs.Sequences.{all-append}
+use Rattle.calls.proofs.Sequences.{all-parts}
+use borrow.Author.Needs.{needs}
 use Rattle.calls.proofs.all_finite.Statement.{statement}
 use Rattle.calls.proofs.all_finite.Tie as tie
 
-module _ {A : Type 0} (test : A → Bool) where
-  all-take : (xs : List A) (i : ℕ) (d : A) → i < length xs → all test (take (i + 1) xs) ≡ all test (take i xs) && test (getD xs i d)
-  unfolding all
-  all-take xs i d h =
-      rw (add-one i, take-suc xs i d h) (all-append test (take i xs) (getD xs i d ∷ []) ∙ ap (λ (b : Bool). all test (take i xs) && b) (and-true (test (getD xs i d))))
+mul-each-finite : tie.Need-mul-each-finite
+mul-each-finite c = search needs
 
-abbrev Inv-loop : tie.InvT-loop
-Inv-loop values passed₀ k₀ passed k = (k ≤ length values) × (passed ≡ all finite (take k values))
+mul-each-finite-2 : tie.Need-mul-each-finite-2
+mul-each-finite-2 c = search needs
 
-abbrev μ-loop : tie.MeasureT-loop
-μ-loop values passed₀ k₀ passed k = length values - k
+sub-each-finite : tie.Need-sub-each-finite
+sub-each-finite c = search needs
 
-loop-holds : tie.Need-loop-holds Inv-loop μ-loop
-unfolding all
-loop-holds c = (omega arith, refl)
+part-each-finite-start : tie.Need-part-each-finite-start
+part-each-finite-start c = search needs
 
-mul-is-finite : tie.Need-mul-is-finite Inv-loop μ-loop
-mul-is-finite c = omega arith
+part-each-finite-end : tie.Need-part-each-finite-end
+part-each-finite-end c = search needs
 
-shared-slice-read-is-finite : tie.Need-shared-slice-read-is-finite Inv-loop μ-loop
-shared-slice-read-is-finite c = omega arith
+each-finite-requires : tie.Need-each-finite-requires
+each-finite-requires c κs = search needs
 
-is-finite-requires : tie.Need-is-finite-requires Inv-loop μ-loop
-is-finite-requires c κs = search needs
+quarters-finite-requires : tie.Need-quarters-finite-requires
+quarters-finite-requires c κs = search needs
 
-add-k : tie.Need-add-k Inv-loop μ-loop
-add-k c = omega arith
-
-loop-less : tie.Need-loop-less Inv-loop μ-loop
-loop-less c = omega arith
-
-loop-again : tie.Need-loop-again Inv-loop μ-loop
-loop-again c =
-    let values = c .before .before .before .before .before .args .values .now in
-    let loop = c .before .before .before .loop in
-    (omega arith, cc (all-take finite values (loop .k) nan (c .before .before .loop-test .taken)))
-
-returns : tie.Need-returns Inv-loop μ-loop
+returns : tie.Need-returns
 returns c =
-    let values = c .before .before .before .args .values .now in
-    c .before .loop .inv .1 ∙ ap (all finite) (take-all (c .before .loop .k) values (c .loop-test .left))
+    let values = c .before .before .before .before .args .values .now in
+    let four = 4 * (length values / 4) in
+    ap₂ _&&_ (c .quarters-finite .ensures) (c .before .each-finite .ensures)
+    ∙ sym (all-parts finite values four (length values - four))
+    ∙ ap (all finite) (take-all (four + (length values - four)) values (omega arith))
 
 pub all-finite-spec : {M : Type 1} → statement M
 all-finite-spec =
     tie.close
     (tie.spec
-    Inv-loop
-    μ-loop
-    loop-holds
-    mul-is-finite
-    shared-slice-read-is-finite
-    is-finite-requires
-    add-k
-    loop-less
-    loop-again
+    mul-each-finite
+    mul-each-finite-2
+    sub-each-finite
+    part-each-finite-start
+    part-each-finite-end
+    each-finite-requires
+    quarters-finite-requires
     returns)
