@@ -39,7 +39,7 @@ module _ (c w h s0 s : ℕ) (m : List Float) where
         }
 
     pub column-accepted :
-        s < w → w ≤ h → rowStart w h ≤ length m → UnderFinished w h s0 s d m true m₁ →
+        s < w → s < h → rowStart w h ≤ length m → UnderFinished w h s0 s d m true m₁ →
         ColumnFinished c w h s0 s m success (set m₁ (rowStart w s + s) d)
     unfolding firstRefusal rule11
     column-accepted narrow tall room rows =

@@ -15,7 +15,7 @@ use Rattle.calls.specs.Arithmetic.{minusProducts}
 use Rattle.calls.proofs.Sequences.{tabulate-of, tabulate-same, tabulate-append, all-append}
 use Rattle.calls.proofs.Columns.{products-same}
 use Rattle.kernels.specs.Kernels.{Scattered}
-use Rattle.blocked_factor.specs.BlockColumns.{rowStart, rowAt, columnQuotient, RowsFinished, UnderFinished}
+use Rattle.blocked_factor.specs.BlockColumns.{rowStart, rowAt, columnQuotient, RowsFinished, UnderFinished, columnFinite}
 use Rattle.blocked_factor.proofs.BlockRows.{row-next, row-lt, row-apart}
 
 -- ---- what is judged
@@ -31,6 +31,22 @@ all-none f count e = rw e
 all-one : (f : ℕ → Float) (count : ℕ) → count ≡ 1 → finite (f 0) ≡ all finite (tabulate count f)
 unfolding all tabulate grow
 all-one f count e = rw e (sym (and-true (finite (f 0))))
+
+pub column-none : (w from s : ℕ) (m : List Float) → true ≡ columnFinite w from from m s
+column-none w from s m = all-none (λ i. getD m (rowStart w (from + i) + s) nan) (from - from) (omega arith)
+
+pub column-next :
+    (w from r s : ℕ) (m : List Float) → from ≤ r →
+    columnFinite w from r m s && finite (getD m (rowStart w r + s) nan) ≡ columnFinite w from (r + 1) m s
+column-next w from r s m low =
+    let f : ℕ → Float = λ i. getD m (rowStart w (from + i) + s) nan in
+    let row : r ≡ from + (r - from + 0) = omega arith in
+    let count : r - from + 1 ≡ r + 1 - from = omega arith in
+    ap (λ b. columnFinite w from r m s && b)
+    (ap (λ q. finite (getD m (rowStart w q + s) nan)) row ∙ all-one (λ i. f (r - from + i)) 1 refl)
+    ∙ sym (all-append finite (tabulate (r - from) f) (tabulate 1 (λ i. f (r - from + i))))
+    ∙ ap (all finite) (sym (tabulate-append f (r - from) 1))
+    ∙ ap (λ n. all finite (tabulate n f)) count
 
 -- ---- no rows, and one
 
@@ -48,7 +64,8 @@ module _ (w s0 s : ℕ) (d : Float) (m : List Float) where
     pub rows-one :
         (q : Float) →
         q
-        ≡ div binary64 (minusProducts (rowAt m (rowStart w r + s0)) (rowAt m (rowStart w s + s0)) (s - s0) (getD m (rowStart w r + s0 + (s - s0)) nan))
+        ≡ div binary64 (minusProducts (rowAt m (rowStart w r + s0)) (rowAt m (rowStart w s + s0)) (s - s0)
+            (getD m (rowStart w r + s0 + (s - s0)) nan))
         d →
         RowsFinished w r (r + 1) s0 s d m (finite q) (set m (rowStart w r + s0 + (s - s0)) q)
     rows-one q e =
@@ -128,7 +145,8 @@ module _
   quotient-kept : (r : ℕ) → a ≤ r → b ≤ r → columnQuotient w s0 s m₁ d r ≡ columnQuotient w s0 s m d r
   quotient-kept r above after =
       ap (λ t. div binary64 t d)
-      (products-same (rowAt m₁ (rowStart w r + s0)) (rowAt m (rowStart w r + s0)) (rowAt m₁ (rowStart w s + s0)) (rowAt m (rowStart w s + s0)) (s - s0)
+      (products-same (rowAt m₁ (rowStart w r + s0)) (rowAt m (rowStart w r + s0)) (rowAt m₁ (rowStart w s + s0)) (rowAt m (rowStart w s + s0))
+          (s - s0)
       (getD m₁ (rowStart w r + s) nan) (λ k few. moved r k (omega arith) few) (λ k few. moved s k (omega arith) few)
       ∙ ap (minusProducts (rowAt m (rowStart w r + s0)) (rowAt m (rowStart w s + s0)) (s - s0)) (here-kept r above after))
     where

@@ -4,7 +4,9 @@ pub mod Packing
 pub mod Panels
 pub mod Finishing
 pub mod ColumnVerdicts
+pub mod Solving
 pub mod Stages
+pub mod PanelVerdicts
 pub mod Runs
 pub mod EarlierBlocks
 pub mod BlockParts

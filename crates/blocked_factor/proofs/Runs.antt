@@ -1,5 +1,5 @@
--- The columns and panels of a block column in rising order, up to the first column that is refused. Assumes nothing.
-use Prim.Native.Nat.{ℕ, _+_, _-_, _≤_, _<_}
+-- The panels of a block column in rising order, up to the first column that is refused. Assumes nothing.
+use Prim.Native.Nat.{ℕ, _+_, _-_, _≤_}
 use native.Mathlib.Omega.{arith}
 use mathlib.Core.Path.{_≡_, refl, sym, ap, _∙_, subst}
 use mathlib.Core.Bool.{Bool, true, false}
@@ -10,11 +10,11 @@ use lib.Ieee.{Float, nan}
 use Rattle.calls.specs.declared.CallResult.{CallResult}
 use Rattle.calls.specs.Triangles.{Triangle}
 use Rattle.calls.specs.Refusals.{success, accepted, lowestRefusal, columnRules}
-use Rattle.calls.proofs.Judging.{first-success, lowest-next, lowest-found, lowest-all}
-use Rattle.blocked_factor.specs.BlockColumns.{rowStart, sourceAt, PanelUpdated, ColumnFinished}
+use Rattle.calls.proofs.Judging.{first-success, lowest-all}
+use Rattle.blocked_factor.specs.BlockColumns.{rowStart, sourceAt, PanelUpdated}
 use Rattle.blocked_factor.specs.BlockStages.{judgeColumn, Stage, PanelFinished, ColumnsFactored}
 use Rattle.blocked_factor.proofs.BlockRows.{row-lt}
-use Rattle.blocked_factor.proofs.Stages.{lowest-stays, column-judged, column-stage, stage-updated, stage-all}
+use Rattle.blocked_factor.proofs.Stages.{lowest-stays, stage-updated, stage-all}
 
 -- columns from k₀ to k − 1 are accepted and take a matrix from one stage to the other
 pub record Running
@@ -37,63 +37,6 @@ not-true e t = rw e at t
 pub judge-success : (n : ℕ) (a : Triangle) (j : ℕ) → T (accepted (judgeColumn n a j)) → judgeColumn n a j ≡ success
 unfolding columnRules
 judge-success n a j t = first-success _ t
-
--- ---- columns of a panel
-
-abbrev pub PanelStage : ℕ → ℕ → ℕ → ℕ → ℕ → List Float → ℕ → Triangle → Type 0
-PanelStage c w s0 e j m n a = Stage n a c w s0 e j m
-
-module _
-    (c w h s0 e s : ℕ) (m m₁ m₂ : List Float) (answer : CallResult)
-    (before : Running c w h (PanelStage c w s0 e s0 m) (PanelStage c w s0 e s m₁) s0 s m m₁) (left : s0 ≤ s) (right : s < e) (narrow : e ≤ w)
-    (tall : w ≤ h) (column : ColumnFinished c w h s0 s m₁ answer m₂) where
-  column-beyond : (p : ℕ) → rowStart w h ≤ p → getD m₂ p nan ≡ getD m p nan
-  column-beyond p far =
-      column .outside p (λ r low high z. omega (arith, row-lt w r h s high (omega arith))) ∙ before .beyond p far
-
-  pub running-column : accepted answer ≡ true → Running c w h (PanelStage c w s0 e s0 m) (PanelStage c w s0 e (s + 1) m₂) s0 (s + 1) m m₂
-  running-column passed =
-      record {
-        kept = column .kept ∙ before .kept;
-        beyond = column-beyond;
-        run = λ n a order stage first.
-            let now = before .run n a order stage first in
-            let same : answer ≡ judgeColumn n a (c + s) = column-judged n a c w h s0 e s m₁ (now .0) order left right narrow tall answer m₂ column in
-            let assoc : c + (s + 1) ≡ c + s + 1 = omega arith in (
-              column-stage n a c w h s0 e s m₁ (now .0) order left right narrow tall answer m₂ column (is-true passed),
-              rw assoc
-                  (lowest-next (judgeColumn n a) (c + s) (now .1)
-                  ∙ judge-success n a (c + s) (subst (λ r. T (accepted r)) same (is-true passed))),
-            );
-      }
-
-  pub finished-refused : accepted answer ≡ false → PanelFinished c w h s0 e m answer m₂
-  finished-refused refused =
-      record {
-        kept = column .kept ∙ before .kept;
-        beyond = column-beyond;
-        judged = λ n a order stage first.
-            let now = before .run n a order stage first in
-            let same : answer ≡ judgeColumn n a (c + s) = column-judged n a c w h s0 e s m₁ (now .0) order left right narrow tall answer m₂ column in
-            record {
-              verdict =
-                  same
-                  ∙ sym (lowest-found (judgeColumn n a) (c + s) (c + e) (omega arith) (now .1) (ap (λ r. accepted r) (sym same) ∙ refused));
-              stage = λ t. absurd (not-true refused t);
-            };
-      }
-
-pub finished-all :
-    (c w h s0 e : ℕ) (m m₁ : List Float) → Running c w h (PanelStage c w s0 e s0 m) (PanelStage c w s0 e e m₁) s0 e m m₁ →
-    PanelFinished c w h s0 e m success m₁
-finished-all c w h s0 e m m₁ run =
-    record {
-      kept = run .kept;
-      beyond = run .beyond;
-      judged = λ n a order stage first.
-          let now = run .run n a order stage first in
-          record { verdict = sym (now .1); stage = λ t. now .0 };
-    }
 
 -- ---- a panel
 
@@ -138,7 +81,8 @@ module _
             );
       }
     where
-      lowest-accepted-success : (n : ℕ) (a : Triangle) (k : ℕ) → T (accepted (lowestRefusal (judgeColumn n a) k)) → lowestRefusal (judgeColumn n a) k ≡ success
+      lowest-accepted-success : (n : ℕ) (a : Triangle) (k : ℕ) → T (accepted (lowestRefusal (judgeColumn n a) k)) → lowestRefusal
+          (judgeColumn n a) k ≡ success
       lowest-accepted-success n a k t = lowest-all (judgeColumn n a) (judge-success n a) k t
 
   pub factored-refused : to ≤ w → accepted answer ≡ false → ColumnsFactored c w h 0 w m answer m₂

@@ -3,7 +3,7 @@
 use Prim.Native.Nat.{ℕ, _+_, _-_, _*_, _≤_, _<_}
 use mathlib.Core.Path.{_≡_}
 use mathlib.Core.Logic.{_≢_, _⊎_}
-use mathlib.Core.Bool.{Bool}
+use mathlib.Core.Bool.{Bool, false}
 use mathlib.Core.List.{List, [], _∷_}
 use lib.Dec.{T}
 use lib.ListN.{length, getD}
@@ -11,12 +11,13 @@ use lib.Ieee.{Float, nan, binary64, div}
 use Rattle.binary64.specs.Kinds.{finite}
 use Rattle.binary64.specs.Root.{root}
 use Rattle.binary64.specs.Judged.{judged}
+use Rattle.binary64.specs.declared.Pivot.the-variants.{Root}
 use Rattle.shape.specs.Bounds.{maxOrder}
 use Rattle.shape.specs.Places.{placeInBlock}
 use Rattle.calls.specs.declared.CallResult.{CallResult}
 use Rattle.calls.specs.Sequences.{tabulate, all}
 use Rattle.calls.specs.Arithmetic.{minusProducts}
-use Rattle.calls.specs.Refusals.{accepted, firstRefusal, rule10, rule11}
+use Rattle.calls.specs.Refusals.{success, accepted, firstRefusal, rule10, rule11}
 
 abbrev pub rowStart : ℕ → ℕ → ℕ
 rowStart w r = placeInBlock w r 0
@@ -115,3 +116,57 @@ pub record ColumnFinished (c w h s0 s : ℕ) (m : List Float) (answer : CallResu
       T (accepted answer) → (r : ℕ) → s < r → r < h → getD m′ (rowStart w r + s) nan ≡ columnQuotient w s0 s m (columnRoot w s0 s m) r
   pub outside :
       (p : ℕ) → ((r : ℕ) → s ≤ r → r < h → p ≢ rowStart w r + s) → getD m′ p nan ≡ getD m p nan
+
+-- The value of entry (r, s) of m less its products with columns s0 .. s − 1 as they stand in m′.
+abbrev pub lessSolved : ℕ → ℕ → List Float → List Float → ℕ → ℕ → Float
+lessSolved w s0 m m′ r s =
+    minusProducts (rowAt m′ (rowStart w r + s0)) (rowAt m′ (rowStart w s + s0)) (s - s0) (getD m (rowStart w r + s) nan)
+
+abbrev pub quotientSolved : ℕ → ℕ → List Float → List Float → Float → ℕ → ℕ → Float
+quotientSolved w s0 m m′ diagonal r s = div binary64 (lessSolved w s0 m m′ r s) diagonal
+
+-- Column s is judged by its rows before h.
+abbrev pub judgeSolved : ℕ → ℕ → ℕ → ℕ → List Float → List Float → ℕ → CallResult
+judgeSolved c w h s0 m m′ s =
+    firstRefusal
+    (rule10 (c + s) (judged (lessSolved w s0 m m′ s s))
+    ∷ rule11 (c + s) (tabulate (h - s - 1) (λ i. quotientSolved w s0 m m′ (root (lessSolved w s0 m m′ s s)) (s + 1 + i) s)) ∷ [])
+
+-- The rows before `top` of columns s0 .. end − 1 are finished, and accepted; `answer` is success where these are all columns before e, and else
+-- the refusal of column `end`. Nothing changes but these rows of columns s0 .. e − 1.
+pub record TopFinished (c w top s0 e : ℕ) (m : List Float) (end : ℕ) (answer : CallResult) (m′ : List Float) : Type 0 where
+  pub kept : length m′ ≡ length m
+  pub low : s0 ≤ end
+  pub high : end ≤ e
+  pub diagonal :
+      (s : ℕ) → s0 ≤ s → s < end → judged (lessSolved w s0 m m′ s s) ≡ Root (getD m′ (rowStart w s + s) nan)
+  pub under :
+      (r s : ℕ) → s0 ≤ s → s < end → s < r → r < top →
+      getD m′ (rowStart w r + s) nan ≡ quotientSolved w s0 m m′ (getD m′ (rowStart w s + s) nan) r s
+  pub passed : (r s : ℕ) → s0 ≤ s → s < end → s < r → r < top → T (finite (getD m′ (rowStart w r + s) nan))
+  pub accept : T (accepted answer) → (answer ≡ success) × (end ≡ e)
+  pub refuse : accepted answer ≡ false → (end < e) × (answer ≡ judgeSolved c w top s0 m m′ end)
+  pub outside :
+      (p : ℕ) → ((r s : ℕ) → s0 ≤ s → s < e → s ≤ r → r < top → p ≢ rowStart w r + s) → getD m′ p nan ≡ getD m p nan
+
+-- Rows from `from` to `to` − 1, which are below these columns, are finished in columns s0 .. e − 1, and nothing else changes. They are finite
+-- where the judgement is true.
+pub record RowsSolved (w from to s0 e : ℕ) (m : List Float) (judgement : Bool) (m′ : List Float) : Type 0 where
+  pub kept : length m′ ≡ length m
+  pub rows :
+      (r s : ℕ) → from ≤ r → r < to → s0 ≤ s → s < e →
+      getD m′ (rowStart w r + s) nan ≡ quotientSolved w s0 m m′ (getD m′ (rowStart w s + s) nan) r s
+  pub passed : T judgement → (r s : ℕ) → from ≤ r → r < to → s0 ≤ s → s < e → T (finite (getD m′ (rowStart w r + s) nan))
+  pub outside :
+      (p : ℕ) → ((r s : ℕ) → from ≤ r → r < to → s0 ≤ s → s < e → p ≢ rowStart w r + s) → getD m′ p nan ≡ getD m p nan
+
+-- rows from `from` to `to` − 1 of column s are finite
+abbrev pub columnFinite : ℕ → ℕ → ℕ → List Float → ℕ → Bool
+columnFinite w from to m s = all finite (tabulate (to - from) (λ i. getD m (rowStart w (from + i) + s) nan))
+
+-- the lowest of columns s0 .. end − 1 that is not, or `end`
+pub record LowestRefused (w from to s0 end : ℕ) (m : List Float) (s : ℕ) : Type 0 where
+  pub low : s0 ≤ s
+  pub high : s ≤ end
+  pub before : (k : ℕ) → s0 ≤ k → k < s → T (columnFinite w from to m k)
+  pub here : s < end → columnFinite w from to m s ≡ false

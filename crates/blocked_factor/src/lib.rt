@@ -1,6 +1,6 @@
 // The blocked factor: block column by block column, each less the products of those before it, then finished column by column.
 ghost use mathlib.Core.Path.{_≡_};
-ghost use Prim.Native.Nat.{ℕ, _+_, _-_, _≤_, _<_};
+ghost use Prim.Native.Nat.{ℕ, _+_, _-_, _*_, _≤_, _<_};
 ghost use lib.ListN.{length, getD, replicate};
 ghost use lib.Ieee.{nan, binary64, div};
 ghost use Rattle.binary64.specs.Kinds.{zero64};
@@ -9,7 +9,7 @@ ghost use Rattle.shape.specs.Places.{blockStart, width, blockWork};
 ghost use Rattle.calls.specs.Arithmetic.{minusProducts};
 ghost use Rattle.calls.specs.Calls.{DoneAs, factorize};
 ghost use Rattle.kernels.specs.Kernels.{Filled};
-ghost use Rattle.blocked_factor.specs.BlockColumns.{rowStart, rowAt, ColumnFinished, RowsFinished, UnderFinished, PanelUpdated};
+ghost use Rattle.blocked_factor.specs.BlockColumns.{rowStart, rowAt, ColumnFinished, RowsFinished, UnderFinished, TopFinished, RowsSolved, columnFinite, LowestRefused, PanelUpdated};
 ghost use Rattle.blocked_factor.specs.BlockStages.{PanelFinished, ColumnsFactored};
 ghost use Rattle.blocked_factor.specs.BlockSteps.{BlockAt, BlockFactored, BlockDone, Saved, Sized, BlocksDone, rowOf};
 
@@ -45,7 +45,7 @@ fn finish_row(part: &mut [f64], width: usize, r: usize, s0: usize, s: usize, roo
 
 // The places of column s in the eight rows from r on.
 fn row_places8(width: usize, r: usize, s: usize) -> [usize; 8]
-    requires { ⌜ (s < width) × (s ≤ r) × (r + 8 ≤ maxOrder) ⌝ }
+    requires { ⌜ (s ≤ r) × (r + 8 ≤ maxOrder) ⌝ }
     ensures { λ at. ⌜ ((k : ℕ) → k < 8 → getD at k 0 ≡ rowStart width (r + k) + s) ⌝ }
 {
     let mut places = [0; 8];
@@ -77,12 +77,20 @@ fn quotients8(part: &[f64], at: [usize; 8], y: usize, count: usize, root: f64) -
     divide8(reduced, root)
 }
 
-// As `finish_row`, for the eight rows from r on at once.
-fn finish_rows8(part: &mut [f64], width: usize, r: usize, s0: usize, s: usize, root: f64) -> bool
+// As `finish_row`, for the eight rows from r on at once, whose places of column s0 are given.
+fn finish_rows8(
+    part: &mut [f64],
+    at: [usize; 8],
+    width: usize,
+    r: usize,
+    s0: usize,
+    s: usize,
+    root: f64,
+) -> bool
     requires { ⌜ (s0 ≤ s) × (s < width) × (s < r) × (r + 8 ≤ maxOrder) × (rowStart width (r + 8) ≤ length (now part)) ⌝ }
+    requires { ⌜ ((k : ℕ) → k < 8 → getD at k 0 ≡ rowStart width (r + k) + s0) ⌝ }
     ensures { λ finite. ⌜ RowsFinished width r (r + 8) s0 s root (now (part .entry)) finite (now (part .exit)) ⌝ }
 {
-    let at = row_places8(width, r, s0);
     let y = Shape::place_in_block(width, s, 0) + s0;
     let count = s - s0;
     let quotients = quotients8(part, at, y, count, root);
@@ -92,14 +100,15 @@ fn finish_rows8(part: &mut [f64], width: usize, r: usize, s0: usize, s: usize, r
 
 // The rows under the diagonal of column s, eight at a time. True where all are finite.
 fn finish_rows(part: &mut [f64], width: usize, rows: usize, s0: usize, s: usize, root: f64) -> bool
-    requires { ⌜ (s0 ≤ s) × (s < width) × (width ≤ rows) × (rows ≤ maxOrder) × (rowStart width rows ≤ length (now part)) ⌝ }
+    requires { ⌜ (s0 ≤ s) × (s < width) × (s < rows) × (rows ≤ maxOrder) × (rowStart width rows ≤ length (now part)) ⌝ }
     ensures { λ r. ⌜ UnderFinished width rows s0 s root (now (part .entry)) r (now (part .exit)) ⌝ }
 {
     let mut finite = true;
     let mut r = s + 1;
     while r < rows {
         if 8 <= rows - r {
-            let eight = finish_rows8(part, width, r, s0, s, root);
+            let at = row_places8(width, r, s0);
+            let eight = finish_rows8(part, at, width, r, s0, s, root);
             finite = finite & eight;
             r += 8;
         } else {
@@ -120,7 +129,7 @@ fn finish_column(
     s0: usize,
     s: usize,
 ) -> CallResult
-    requires { ⌜ (s0 ≤ s) × (s < width) × (width ≤ rows) × (c + rows ≤ maxOrder) × (rowStart width rows ≤ length (now part)) ⌝ }
+    requires { ⌜ (s0 ≤ s) × (s < width) × (s < rows) × (c + rows ≤ maxOrder) × (rowStart width rows ≤ length (now part)) ⌝ }
     ensures { λ r. ⌜ ColumnFinished c width rows s0 s (now (part .entry)) r (now (part .exit)) ⌝ }
 {
     let y = Shape::place_in_block(width, s, 0) + s0;
@@ -151,7 +160,107 @@ fn finish_column(
     }
 }
 
-// Columns s0 .. e − 1, up to the first that is refused.
+// How far the columns of a panel are finished in its first rows: before column `end`, whose refusal is the result, or all of them.
+struct Top {
+    end: usize,
+    result: CallResult,
+}
+
+// The rows before `top` of columns s0 .. e − 1, up to the first column that is refused in these rows.
+fn finish_top(part: &mut [f64], c: usize, width: usize, top: usize, s0: usize, e: usize) -> Top
+    requires { ⌜ (s0 ≤ e) × (e ≤ width) × (e ≤ top) × (c + top ≤ maxOrder) × (rowStart width top ≤ length (now part)) ⌝ }
+    ensures { λ r. ⌜ TopFinished c width top s0 e (now (part .entry)) (r .end) (r .result) (now (part .exit)) ⌝ }
+{
+    let mut s = s0;
+    while s < e {
+        let result = finish_column(part, c, width, top, s0, s);
+        if !calls::accepted(result) {
+            return Top { end: s, result };
+        }
+        s += 1;
+    }
+    let result = calls::refusal(0, 0);
+    Top { end: e, result }
+}
+
+// The eight rows from r on, which are below columns s0 .. end − 1, in all of these. True where all are finite.
+fn finish_columns8(part: &mut [f64], width: usize, r: usize, s0: usize, end: usize) -> bool
+    requires { ⌜ (s0 ≤ end) × (end ≤ width) × (end ≤ r) × (r + 8 ≤ maxOrder) × (rowStart width (r + 8) ≤ length (now part)) ⌝ }
+    ensures { λ finite. ⌜ RowsSolved width r (r + 8) s0 end (now (part .entry)) finite (now (part .exit)) ⌝ }
+{
+    let at = row_places8(width, r, s0);
+    let mut finite = true;
+    let mut s = s0;
+    while s < end {
+        let root = part[Shape::place_in_block(width, s, 0) + s];
+        let eight = finish_rows8(part, at, width, r, s0, s, root);
+        finite = finite & eight;
+        s += 1;
+    }
+    finite
+}
+
+// The rows from `top` on in columns s0 .. end − 1, eight rows at a time, so that their places are found once for all columns.
+fn finish_below(
+    part: &mut [f64],
+    width: usize,
+    top: usize,
+    eights: usize,
+    s0: usize,
+    end: usize,
+) -> bool
+    requires { ⌜ (s0 ≤ end) × (end ≤ width) × (end ≤ top) × (top + 8 * eights ≤ maxOrder) × (rowStart width (top + 8 * eights) ≤ length (now part)) ⌝ }
+    ensures { λ finite. ⌜ RowsSolved width top (top + 8 * eights) s0 end (now (part .entry)) finite (now (part .exit)) ⌝ }
+{
+    let mut finite = true;
+    let mut q = 0;
+    while q < eights {
+        let eight = finish_columns8(part, width, top + 8 * q, s0, end);
+        finite = finite & eight;
+        q += 1;
+    }
+    finite
+}
+
+// Whether the rows from `from` to `to` − 1 of column s are finite.
+fn column_finite(part: &[f64], width: usize, from: usize, to: usize, s: usize) -> bool
+    requires { ⌜ (s < width) × (s < from) × (from ≤ to) × (to ≤ maxOrder) × (rowStart width to ≤ length (now part)) ⌝ }
+    ensures { λ finite. ⌜ finite ≡ columnFinite width from to (now (part .entry)) s ⌝ }
+{
+    let mut finite = true;
+    let mut r = from;
+    while r < to {
+        let p = Shape::place_in_block(width, r, 0) + s;
+        finite = finite & binary64::is_finite(part[p]);
+        r += 1;
+    }
+    finite
+}
+
+// The lowest of columns s0 .. end − 1 with a value in these rows that is not finite, or `end`.
+fn lowest_refused(
+    part: &[f64],
+    width: usize,
+    from: usize,
+    to: usize,
+    s0: usize,
+    end: usize,
+) -> usize
+    requires { ⌜ (s0 ≤ end) × (end ≤ width) × (end ≤ from) × (from ≤ to) × (to ≤ maxOrder) × (rowStart width to ≤ length (now part)) ⌝ }
+    ensures { λ s. ⌜ LowestRefused width from to s0 end (now (part .entry)) s ⌝ }
+{
+    let mut s = s0;
+    while s < end {
+        if !column_finite(part, width, from, to, s) {
+            return s;
+        }
+        s += 1;
+    }
+    end
+}
+
+// Columns s0 .. e − 1, up to the first that is refused: first the rows that eights leave, with the diagonal, and then the others. A column may be
+// refused for its lower rows alone, and is then before the one that the first rows refuse.
 fn finish_panel(
     part: &mut [f64],
     c: usize,
@@ -163,15 +272,14 @@ fn finish_panel(
     requires { ⌜ (s0 ≤ e) × (e ≤ width) × (width ≤ rows) × (c + rows ≤ maxOrder) × (rowStart width rows ≤ length (now part)) ⌝ }
     ensures { λ r. ⌜ PanelFinished c width rows s0 e (now (part .entry)) r (now (part .exit)) ⌝ }
 {
-    let mut s = s0;
-    while s < e {
-        let result = finish_column(part, c, width, rows, s0, s);
-        if !calls::accepted(result) {
-            return result;
-        }
-        s += 1;
+    let eights = (rows - e) / 8;
+    let top = rows - 8 * eights;
+    let first = finish_top(part, c, width, top, s0, e);
+    if finish_below(part, width, top, eights, s0, first.end) {
+        return first.result;
     }
-    calls::refusal(0, 0)
+    let s = lowest_refused(part, width, top, rows, s0, first.end);
+    if s < first.end { calls::refusal(11, c + s) } else { first.result }
 }
 
 // The g columns from s0 on: less the products of the block column's own earlier columns, then finished.

@@ -1,98 +1,115 @@
--- `blocked_factor::finish_panel` meets its contract. Assumes nothing.
-use Prim.Native.Nat.{_-_, _≤_}
-use native.Mathlib.Nat.{le-refl}
+-- `blocked_factor::proofs::finish_panel` meets its contract. Assumes nothing.
+use Prim.Native.Nat.{_+_, _-_, _*_, _/_}
 use native.Mathlib.Omega.{arith}
-use mathlib.Core.Path.{_≡_, _∙_}
+use mathlib.Core.Path.{_≡_, subst, sym}
+use lib.Dec.{T}
+use Rattle.blocked_factor.proofs.BlockRows.{row-mono}
+use Rattle.blocked_factor.proofs.PanelVerdicts.{panel-passed, panel-finite, panel-failed}
 use borrow.Author.Needs.{needs}
-use Rattle.calls.proofs.Judging.{accepted-of, refused-of}
-use Rattle.blocked_factor.proofs.Runs.{Running, PanelStage, running-none, running-column, finished-refused, finished-all}
 use Rattle.blocked_factor.proofs.finish_panel.Statement.{statement}
 use Rattle.blocked_factor.proofs.finish_panel.Tie as tie
 
-abbrev Inv-loop : tie.InvT-loop
-Inv-loop part₀ c width rows s0 e s₀ part s = (s0 ≤ s) × (s ≤ e) × Running c width rows (PanelStage c width s0 e s0 part₀)
-    (PanelStage c width s0 e s part) s0 s part₀ part
+sub-eights : tie.Need-sub-eights
+sub-eights c = search needs
 
-abbrev μ-loop : tie.MeasureT-loop
-μ-loop part₀ c width rows s0 e s₀ part s = e - s
+mul-top : tie.Need-mul-top
+mul-top c = search needs
 
-loop-holds : tie.Need-loop-holds Inv-loop μ-loop
-loop-holds c = (le-refl _, omega (arith, c .before .pre), running-none _ _ _ _ _ _)
+sub-top : tie.Need-sub-top
+sub-top c = search needs
 
-finish-column-requires : tie.Need-finish-column-requires Inv-loop μ-loop
-finish-column-requires c κs =
-    let pre = c .before .before .before .before .pre in
-    omega (arith, pre, c .before .loop-test .taken, c .before .before .loop .inv .0, c .before .before .loop .inv .2 .kept)
+finish-top-requires : tie.Need-finish-top-requires
+finish-top-requires c κs =
+    let a = c .before .before .args in
+    let pre = c .before .before .pre in
+    let top = a .rows - 8 * ((a .rows - a .e) / 8) in
+    omega (arith, pre, row-mono (a .width) top (a .rows) (omega arith))
 
-accepted-requires : tie.Need-accepted-requires Inv-loop μ-loop
-accepted-requires c κs = search needs
+finish-below-requires : tie.Need-finish-below-requires
+finish-below-requires c κs =
+    let entry = c .before .before .before .before .before .before in
+    let a = entry .args in
+    let pre = entry .pre in
+    let all : a .rows - 8 * ((a .rows - a .e) / 8) + 8 * ((a .rows - a .e) / 8) ≡ a .rows = omega (arith, pre) in
+    let first = c .before .before .before .finish-top .ensures in
+    rw all (omega (arith, pre, first .kept, first .low, first .high))
 
-same-length : tie.Need-same-length Inv-loop μ-loop
-same-length c =
-    let l = c .before .before .before .before .before .before .before .loop in
-    c .before .before .before .before .finish-column .ensures .kept ∙ l .inv .2 .kept
+same-length : tie.Need-same-length
+same-length c = search needs
 
-returns : tie.Need-returns Inv-loop μ-loop
+returns : tie.Need-returns
 returns c =
-    let finish-column = c .before .before .before .before .finish-column in
-    let pre = c .before .before .before .before .before .before .before .before .before .pre in
-    let a = c .before .before .before .before .before .before .before .before .before .args in
-    let l = c .before .before .before .before .before .before .before .loop in
-    finished-refused (a .c) (a .width) (a .rows) (a .s0) (a .e) (l .s) (a .part .now) (l .part) _ (finish-column .result) (l .inv .2) (l .inv .0)
-    (c .before .before .before .before .before .before .loop-test .taken)
-    (omega (arith, pre)) (omega (arith, pre)) (finish-column .ensures)
-    (refused-of (c .before .accepted .result) (finish-column .result) (c .before .accepted .ensures) (c .if1 .taken))
+    let entry = c .before .before .before .before .before .before .before .before .before .before .before in
+    let a = entry .args in
+    let pre = entry .pre in
+    let top = a .rows - 8 * ((a .rows - a .e) / 8) in
+    let all : top + 8 * ((a .rows - a .e) / 8) ≡ a .rows = omega (arith, pre) in
+    let first = c .before .before .before .before .before .before .before .before .finish-top in
+    let rest = c .before .before .before .before .finish-below in
+    panel-finite (a .c) (a .width) (a .rows) (a .s0) (a .e) top (a .part .now) (first .last .0) _ (first .result .end) (first .result .result)
+    (rest .result) (omega (arith, pre)) (omega (arith, pre)) (omega (arith, pre)) (omega arith) (first .ensures) (rw all at (rest .ensures))
+    (subst T (sym (c .before .if1 .taken)) tt)
 
-add-s : tie.Need-add-s Inv-loop μ-loop
-add-s c =
-    let pre = c .before .before .before .before .before .before .before .before .before .pre in
-    omega (arith, pre, c .before .before .before .before .before .before .loop-test .taken)
+lowest-refused-requires : tie.Need-lowest-refused-requires
+lowest-refused-requires c κs = search needs
 
-loop-less : tie.Need-loop-less Inv-loop μ-loop
-loop-less c = omega (arith, c .before .before .before .before .before .before .loop-test .taken)
+add-refusal : tie.Need-add-refusal
+add-refusal c = search needs
 
-loop-again : tie.Need-loop-again Inv-loop μ-loop
-loop-again c =
-    let finish-column = c .before .before .before .before .finish-column in
-    let loop-test = c .before .before .before .before .before .before .loop-test in
-    let pre = c .before .before .before .before .before .before .before .before .before .pre in
-    let a = c .before .before .before .before .before .before .before .before .before .args in
-    let l = c .before .before .before .before .before .before .before .loop in (
-      omega (arith, l .inv .0),
-      omega (arith, loop-test .taken),
-      running-column (a .c) (a .width) (a .rows) (a .s0) (a .e) (l .s) (a .part .now) (l .part) _ (finish-column .result) (l .inv .2) (l .inv .0)
-          (loop-test .taken)
-          (omega (arith, pre)) (omega (arith, pre)) (finish-column .ensures)
-          (accepted-of (c .before .accepted .result) (finish-column .result) (c .before .accepted .ensures) (c .if1 .left)),
-    )
-
-refusal-requires : tie.Need-refusal-requires Inv-loop μ-loop
+refusal-requires : tie.Need-refusal-requires
 refusal-requires c κs = search needs
 
-same-length-2 : tie.Need-same-length-2 Inv-loop μ-loop
-same-length-2 c = c .before .before .loop .inv .2 .kept
+same-length-2 : tie.Need-same-length-2
+same-length-2 c = search needs
 
-returns-2 : tie.Need-returns-2 Inv-loop μ-loop
+returns-2 : tie.Need-returns-2
 returns-2 c =
-    let a = c .before .before .before .before .args in
-    let l = c .before .before .loop in
-    let e : l .s ≡ a .e = omega (arith, c .before .loop-test .left, l .inv .1) in
-    rw (c .refusal .ensures) (finished-all (a .c) (a .width) (a .rows) (a .s0) (a .e) (a .part .now) (l .part) (rw e at (l .inv .2)))
+    let entry = c .before .before .before .before .before .before .before .before .before .before .before .before .before .before .before in
+    let a = entry .args in
+    let pre = entry .pre in
+    let top = a .rows - 8 * ((a .rows - a .e) / 8) in
+    let all : top + 8 * ((a .rows - a .e) / 8) ≡ a .rows = omega (arith, pre) in
+    let first = c .before .before .before .before .before .before .before .before .before .before .before .before .finish-top in
+    let rest = c .before .before .before .before .before .before .before .before .finish-below in
+    let lowest = c .before .before .before .lowest-refused in
+    rw (c .refusal .ensures)
+    (panel-failed (a .c) (a .width) (a .rows) (a .s0) (a .e) top (a .part .now) (first .last .0) _ (first .result .end) (first .result .result)
+    (rest .result) (omega (arith, pre)) (omega (arith, pre)) (omega (arith, pre)) (omega arith) (first .ensures) (rw all at (rest .ensures))
+    (lowest .result) (lowest .ensures .low) (c .before .if2 .taken) (lowest .ensures .before) (lowest .ensures .here (c .before .if2 .taken)))
+
+same-length-3 : tie.Need-same-length-3
+same-length-3 c = search needs
+
+returns-3 : tie.Need-returns-3
+returns-3 c =
+    let entry = c .before .before .before .before .before .before .before .before .before .before .before .before .before .before .before in
+    let a = entry .args in
+    let pre = entry .pre in
+    let top = a .rows - 8 * ((a .rows - a .e) / 8) in
+    let all : top + 8 * ((a .rows - a .e) / 8) ≡ a .rows = omega (arith, pre) in
+    let first = c .before .before .before .before .before .before .before .before .before .before .before .before .finish-top in
+    let rest = c .before .before .before .before .before .before .before .before .finish-below in
+    let lowest = c .before .before .before .lowest-refused in
+    let none : lowest .result ≡ first .result .end = omega (arith, c .before .if2 .left, lowest .ensures .high) in
+    panel-passed (a .c) (a .width) (a .rows) (a .s0) (a .e) top (a .part .now) (first .last .0) _ (first .result .end) (first .result .result)
+    (rest .result) (omega (arith, pre)) (omega (arith, pre)) (omega (arith, pre)) (omega arith) (first .ensures) (rw all at (rest .ensures))
+    (rw none at (lowest .ensures .before))
 
 pub finish-panel-spec : {M : Type 1} → statement M
 finish-panel-spec =
     tie.close
     (tie.spec
-    Inv-loop
-    μ-loop
-    loop-holds
-    finish-column-requires
-    accepted-requires
+    sub-eights
+    mul-top
+    sub-top
+    finish-top-requires
+    finish-below-requires
     same-length
     returns
-    add-s
-    loop-less
-    loop-again
+    lowest-refused-requires
+    add-refusal
     refusal-requires
     same-length-2
-    returns-2)
+    returns-2
+    same-length-3
+    returns-3)

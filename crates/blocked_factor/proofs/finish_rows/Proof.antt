@@ -1,4 +1,4 @@
--- `blocked_factor::finish_rows` meets its contract. Assumes nothing.
+-- `blocked_factor::proofs::finish_rows` meets its contract. Assumes nothing.
 use Prim.Native.Nat.{_+_, _-_, _≤_, _<_}
 use native.Mathlib.Omega.{arith}
 use mathlib.Core.Path.{_≡_}
@@ -23,37 +23,37 @@ loop-holds c = (omega arith, omega (arith, c .before .pre), rows-none _ _ _ _ _ 
 sub-if1 : tie.Need-sub-if1 Inv-loop μ-loop
 sub-if1 c = omega (arith, c .loop-test .taken)
 
+row-places8-requires : tie.Need-row-places8-requires Inv-loop μ-loop
+row-places8-requires c κs = omega (arith, c .before .before .before .before .pre, c .if1 .taken, c .before .before .loop .inv .0)
+
 finish-rows8-requires : tie.Need-finish-rows8-requires Inv-loop μ-loop
 finish-rows8-requires c κs =
-    let l = c .before .before .before .loop in
-    let a = c .before .before .before .before .before .args in
-    let pre = c .before .before .before .before .before .pre in
-    omega (
-      arith,
-      pre,
-      c .before .if1 .taken,
-      l .inv .0,
-      l .inv .2 .kept,
-      row-mono (a .width) (l .r + 8) (a .rows) (omega (arith, c .before .if1 .taken)),
+    let l = c .before .before .before .before .loop in
+    let a = c .before .before .before .before .before .before .args in
+    let pre = c .before .before .before .before .before .before .pre in
+    let eight = c .before .before .if1 .taken in (
+      omega (arith, pre, eight, l .inv .0, l .inv .2 .kept, row-mono (a .width) (l .r + 8) (a .rows) (omega (arith, eight))),
+      c .before .row-places8 .ensures,
     )
 
 add-r-2 : tie.Need-add-r-2 Inv-loop μ-loop
-add-r-2 c = omega (arith, c .before .before .before .before .before .before .before .before .pre, c .before .before .before .before .if1 .taken)
+add-r-2 c =
+    let entry = c .before .before .before .before .before .before .before .before .before in
+    omega (arith, entry .pre, c .before .before .before .before .before .if1 .taken)
 
 loop-less : tie.Need-loop-less Inv-loop μ-loop
-loop-less c = omega (arith, c .before .before .before .before .before .loop-test .taken)
+loop-less c = omega (arith, c .before .before .before .before .before .before .loop-test .taken)
 
 loop-again : tie.Need-loop-again Inv-loop μ-loop
 loop-again c =
-    let pre = c .before .before .before .before .before .before .before .before .pre in
-    let finish-rows8 = c .before .before .finish-rows8 in
-    let a = c .before .before .before .before .before .before .before .before .args in
-    let l = c .before .before .before .before .before .before .loop in (
+    let pre = c .before .before .before .before .before .before .before .before .before .pre in
+    let a = c .before .before .before .before .before .before .before .before .before .args in
+    let l = c .before .before .before .before .before .before .before .loop in (
       omega (arith, l .inv .0),
-      omega (arith, c .before .before .before .before .if1 .taken),
+      omega (arith, c .before .before .before .before .before .if1 .taken),
       rows-join (a .width) (a .s + 1) (l .r) (a .s0) (a .s) (a .root) (a .part .now) (l .part) (l .finite) (l .inv .2) (omega arith)
-          (omega (arith, pre)) (omega (arith, pre)) (l .r + 8) _ (finish-rows8 .result) (omega (arith, l .inv .0)) (omega arith)
-          (finish-rows8 .ensures),
+          (omega (arith, pre)) (omega (arith, pre)) (l .r + 8) _ (c .before .before .finish-rows8 .result) (omega (arith, l .inv .0)) (omega arith)
+          (c .before .before .finish-rows8 .ensures),
     )
 
 finish-row-requires : tie.Need-finish-row-requires Inv-loop μ-loop
@@ -61,19 +61,13 @@ finish-row-requires c κs =
     let l = c .before .before .before .loop in
     let a = c .before .before .before .before .before .args in
     let pre = c .before .before .before .before .before .pre in
-    omega (
-      arith,
-      pre,
-      c .before .before .loop-test .taken,
-      l .inv .0,
-      l .inv .2 .kept,
-      row-mono (a .width) (l .r + 1) (a .rows) (omega (arith, c .before .before .loop-test .taken)),
-    )
+    let taken = c .before .before .loop-test .taken in
+    omega (arith, pre, taken, l .inv .0, l .inv .2 .kept, row-mono (a .width) (l .r + 1) (a .rows) (omega (arith, taken)))
 
 add-r-3 : tie.Need-add-r-3 Inv-loop μ-loop
 add-r-3 c =
-    let pre = c .before .before .before .before .before .before .before .before .pre in
-    omega (arith, pre, c .before .before .before .before .before .loop-test .taken)
+    let entry = c .before .before .before .before .before .before .before .before in
+    omega (arith, entry .pre, c .before .before .before .before .before .loop-test .taken)
 
 loop-less-2 : tie.Need-loop-less-2 Inv-loop μ-loop
 loop-less-2 c = omega (arith, c .before .before .before .before .before .loop-test .taken)
@@ -107,6 +101,7 @@ finish-rows-spec =
     add-r
     loop-holds
     sub-if1
+    row-places8-requires
     finish-rows8-requires
     add-r-2
     loop-less
