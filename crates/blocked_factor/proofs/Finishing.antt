@@ -65,7 +65,7 @@ module _ (w s0 s : ℕ) (d : Float) (m : List Float) where
         (q : Float) →
         q
         ≡ div binary64 (minusProducts (rowAt m (rowStart w r + s0)) (rowAt m (rowStart w s + s0)) (s - s0)
-            (getD m (rowStart w r + s0 + (s - s0)) nan))
+        (getD m (rowStart w r + s0 + (s - s0)) nan))
         d →
         RowsFinished w r (r + 1) s0 s d m (finite q) (set m (rowStart w r + s0 + (s - s0)) q)
     rows-one q e =
@@ -146,7 +146,7 @@ module _
   quotient-kept r above after =
       ap (λ t. div binary64 t d)
       (products-same (rowAt m₁ (rowStart w r + s0)) (rowAt m (rowStart w r + s0)) (rowAt m₁ (rowStart w s + s0)) (rowAt m (rowStart w s + s0))
-          (s - s0)
+      (s - s0)
       (getD m₁ (rowStart w r + s) nan) (λ k few. moved r k (omega arith) few) (λ k few. moved s k (omega arith) few)
       ∙ ap (minusProducts (rowAt m (rowStart w r + s0)) (rowAt m (rowStart w s + s0)) (s - s0)) (here-kept r above after))
     where

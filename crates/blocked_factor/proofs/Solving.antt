@@ -24,7 +24,7 @@ pub less-same :
     getD m₁ (rowStart w r + s) nan ≡ getD m (rowStart w r + s) nan → lessSolved w s0 m₁ m₁′ r s ≡ lessSolved w s0 m m′ r s
 less-same w s0 r s m m₁ m′ m₁′ row column here =
     products-same (rowAt m₁′ (rowStart w r + s0)) (rowAt m′ (rowStart w r + s0)) (rowAt m₁′ (rowStart w s + s0)) (rowAt m′ (rowStart w s + s0))
-        (s - s0)
+    (s - s0)
     (getD m₁ (rowStart w r + s) nan) (moved r row) (moved s column)
     ∙ ap (minusProducts (rowAt m′ (rowStart w r + s0)) (rowAt m′ (rowStart w s + s0)) (s - s0)) here
   where

@@ -111,8 +111,8 @@ module _
       (end : ℕ) (high : end ≤ e)
       (diagonal : (s : ℕ) → s0 ≤ s → s < end → judged (lessSolved w s0 m m′ s s) ≡ Root (getD m′ (rowStart w s + s) nan))
       (under :
-          (r s : ℕ) → s0 ≤ s → s < end → s < r → r < h →
-          getD m′ (rowStart w r + s) nan ≡ quotientSolved w s0 m m′ (getD m′ (rowStart w s + s) nan) r s) where
+      (r s : ℕ) → s0 ≤ s → s < end → s < r → r < h →
+      getD m′ (rowStart w r + s) nan ≡ quotientSolved w s0 m m′ (getD m′ (rowStart w s + s) nan) r s) where
     done-here : (s : ℕ) → Done s → s0 ≤ s → s < end → (r : ℕ) → s ≤ r → r < h → getD m′ (rowStart w r + s) nan ≡ factorEntry n a (c + r) (c + s)
     done-here s known left right r lower row =
         elim (decLt s r) [

@@ -279,7 +279,11 @@ fn finish_panel(
         return first.result;
     }
     let s = lowest_refused(part, width, top, rows, s0, first.end);
-    if s < first.end { calls::refusal(11, c + s) } else { first.result }
+    if s < first.end {
+        calls::refusal(11, c + s)
+    } else {
+        first.result
+    }
 }
 
 // The g columns from s0 on: less the products of the block column's own earlier columns, then finished.

@@ -71,8 +71,11 @@ fn quarters_finite(values: &[f64], quarter: usize) -> bool
     let mut passed = true;
     let mut k = 0;
     while k < quarter {
-        let upper = binary64::is_finite(values[2 * quarter + k]) & binary64::is_finite(values[3 * quarter + k]);
-        passed = passed & (binary64::is_finite(values[k]) & (binary64::is_finite(values[quarter + k]) & upper));
+        let first = binary64::is_finite(values[k]);
+        let second = binary64::is_finite(values[quarter + k]);
+        let third = binary64::is_finite(values[2 * quarter + k]);
+        let fourth = binary64::is_finite(values[3 * quarter + k]);
+        passed = passed & (first & (second & (third & fourth)));
         k += 1;
     }
     passed

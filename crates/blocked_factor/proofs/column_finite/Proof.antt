@@ -80,7 +80,7 @@ loop-again c =
       omega (arith, l .inv .0),
       omega (arith, c .before .before .before .loop-test .taken),
       ap₂ _&&_ (l .inv .2) (rw (c .before .before .place-in-block .ensures) at (c .is-finite .ensures))
-      ∙ column-next (a .width) (a .from) (l .r) (a .s) (a .part .now) (l .inv .0),
+          ∙ column-next (a .width) (a .from) (l .r) (a .s) (a .part .now) (l .inv .0),
     )
 
 returns : tie.Need-returns Inv-loop μ-loop

@@ -85,17 +85,23 @@ loop-holds c = (omega arith, refl)
 mul-is-finite : tie.Need-mul-is-finite Inv-loop μ-loop
 mul-is-finite c = omega arith
 
+shared-slice-read-is-finite : tie.Need-shared-slice-read-is-finite Inv-loop μ-loop
+shared-slice-read-is-finite c = omega arith
+
+is-finite-requires : tie.Need-is-finite-requires Inv-loop μ-loop
+is-finite-requires c κs = search needs
+
 add-is-finite : tie.Need-add-is-finite Inv-loop μ-loop
 add-is-finite c = omega arith
 
 mul-is-finite-2 : tie.Need-mul-is-finite-2 Inv-loop μ-loop
 mul-is-finite-2 c = omega arith
 
-shared-slice-read-is-finite : tie.Need-shared-slice-read-is-finite Inv-loop μ-loop
-shared-slice-read-is-finite c = omega arith
+shared-slice-read-is-finite-2 : tie.Need-shared-slice-read-is-finite-2 Inv-loop μ-loop
+shared-slice-read-is-finite-2 c = omega arith
 
-is-finite-requires : tie.Need-is-finite-requires Inv-loop μ-loop
-is-finite-requires c κs = search needs
+is-finite-requires-2 : tie.Need-is-finite-requires-2 Inv-loop μ-loop
+is-finite-requires-2 c κs = search needs
 
 mul-is-finite-3 : tie.Need-mul-is-finite-3 Inv-loop μ-loop
 mul-is-finite-3 c = omega arith
@@ -106,20 +112,14 @@ add-is-finite-2 c = omega arith
 mul-is-finite-4 : tie.Need-mul-is-finite-4 Inv-loop μ-loop
 mul-is-finite-4 c = omega arith
 
-shared-slice-read-is-finite-2 : tie.Need-shared-slice-read-is-finite-2 Inv-loop μ-loop
-shared-slice-read-is-finite-2 c = omega arith
-
-is-finite-requires-2 : tie.Need-is-finite-requires-2 Inv-loop μ-loop
-is-finite-requires-2 c κs = search needs
-
-mul-is-finite-5 : tie.Need-mul-is-finite-5 Inv-loop μ-loop
-mul-is-finite-5 c = omega arith
-
 shared-slice-read-is-finite-3 : tie.Need-shared-slice-read-is-finite-3 Inv-loop μ-loop
 shared-slice-read-is-finite-3 c = omega arith
 
 is-finite-requires-3 : tie.Need-is-finite-requires-3 Inv-loop μ-loop
 is-finite-requires-3 c κs = search needs
+
+mul-is-finite-5 : tie.Need-mul-is-finite-5 Inv-loop μ-loop
+mul-is-finite-5 c = omega arith
 
 add-is-finite-3 : tie.Need-add-is-finite-3 Inv-loop μ-loop
 add-is-finite-3 c = omega arith
@@ -146,9 +146,9 @@ loop-again c =
     let few = c .before .before .before .before .before .before .before .before .loop-test .taken in (
       omega arith,
       ap₂ _&&_ (loop .inv .1)
-          (ap₂ _&&_ (c .before .before .is-finite3 .ensures)
-          (ap₂ _&&_ (c .is-finite4 .ensures)
-          (ap₂ _&&_ (c .before .before .before .before .before .before .is-finite .ensures) (c .before .before .before .before .is-finite2 .ensures))))
+          (ap₂ _&&_ (c .before .before .before .before .before .before .is-finite .ensures)
+          (ap₂ _&&_ (c .before .before .before .before .is-finite2 .ensures)
+          (ap₂ _&&_ (c .before .before .is-finite3 .ensures) (c .is-finite4 .ensures))))
           ∙ side-next (entry .args .values .now) (entry .args .quarter) (loop .k) few (entry .pre),
     )
 
@@ -167,18 +167,18 @@ quarters-finite-spec =
     μ-loop
     loop-holds
     mul-is-finite
-    add-is-finite
-    mul-is-finite-2
     shared-slice-read-is-finite
     is-finite-requires
+    add-is-finite
+    mul-is-finite-2
+    shared-slice-read-is-finite-2
+    is-finite-requires-2
     mul-is-finite-3
     add-is-finite-2
     mul-is-finite-4
-    shared-slice-read-is-finite-2
-    is-finite-requires-2
-    mul-is-finite-5
     shared-slice-read-is-finite-3
     is-finite-requires-3
+    mul-is-finite-5
     add-is-finite-3
     mul-is-finite-6
     shared-slice-read-is-finite-4
