@@ -90,9 +90,9 @@ module _
         kept = done .kept ∙ before .kept;
         reached = λ a known.
             let now = before .reached a known in (
-              done .finished a (now .0) (now .1) passes,
+              done .judged .finished a (now .0) (now .1) passes,
               lowest-all (judgeColumn n a) (judge-success n a) (c + width n b c)
-                  (subst (λ r. T (accepted r)) (done .verdict a (now .0) (now .1)) passes),
+                  (subst (λ r. T (accepted r)) (done .judged .verdict a (now .0) (now .1)) passes),
             );
       }
 
@@ -107,7 +107,7 @@ module _
       }
     where
       found : (a : Triangle) → FactoredTo n b a 0 m → answer ≡ lowestRefusal (judgeColumn n a) (c + width n b c)
-      found a known = let now = before .reached a known in done .verdict a (now .0) (now .1)
+      found a known = let now = before .reached a known in done .judged .verdict a (now .0) (now .1)
 
       verdict : (a : Triangle) → FactoredTo n b a 0 m → answer ≡ lowestRefusal (judgeColumn n a) n
       verdict a known =

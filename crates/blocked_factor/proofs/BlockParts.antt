@@ -208,8 +208,11 @@ module _
             ∙ omega (arith, length-take-le start m₁ start-room, factored .kept, length-drop start m₁, update .kept, part-length m₁ start, start-room);
         before = low-kept;
         after = high-kept;
-        verdict = λ a known first. outcome a known first .verdict;
-        finished = λ a known first passed. block-finished a known first passed;
+        judged =
+            record {
+              verdict = λ a known first. outcome a known first .verdict;
+              finished = λ a known first passed. block-finished a known first passed;
+            };
       }
 
 -- ---- entry values kept and put back
@@ -263,8 +266,7 @@ module _
       record {
         kept = factored .kept;
         restored = λ refused. absurd (subst (λ x. T x) (sym passed ∙ refused) tt);
-        verdict = factored .verdict;
-        finished = factored .finished;
+        judged = factored .judged;
       }
 
   pub done-refused :
@@ -277,6 +279,9 @@ module _
         restored = λ again.
             restored m m₁ m₂ work′ answer here factored
             (λ k few. same k (omega arith) ∙ saved .value k (omega arith) ∙ ap (λ p. getD m (p + k) nan) es) (rw (es, ez) at filled);
-        verdict = factored .verdict;
-        finished = λ a known first passed. absurd (subst (λ x. T x) refused passed);
+        judged =
+            record {
+              verdict = factored .judged .verdict;
+              finished = λ a known first passed. absurd (subst (λ x. T x) refused passed);
+            };
       }

@@ -38,11 +38,8 @@ pub record FactoredTo (n b : ℕ) (a : Triangle) (c : ℕ) (m : List Float) : Ty
   pub finished : (i j : ℕ) → Entry n i j → j < c → getD m (blockedPlace n b i j) nan ≡ factorEntry n a i j
   pub entries : (i j : ℕ) → Entry n i j → c ≤ j → getD m (blockedPlace n b i j) nan ≡ entry a i j
 
--- The block column at c is finished where it is accepted. Places before it and past it are as they were.
-pub record BlockFactored (n b c : ℕ) (m : List Float) (answer : CallResult) (m′ : List Float) : Type 0 where
-  pub kept : length m′ ≡ length m
-  pub before : (p : ℕ) → p < blockStart n c → getD m′ p nan ≡ getD m p nan
-  pub after : (p : ℕ) → blockStart n (c + width n b c) ≤ p → getD m′ p nan ≡ getD m p nan
+-- The block column at c is judged, and finished where it is accepted.
+pub record BlockJudged (n b c : ℕ) (m : List Float) (answer : CallResult) (m′ : List Float) : Type 0 where
   pub verdict :
       (a : Triangle) → FactoredTo n b a c m → lowestRefusal (judgeColumn n a) c ≡ success →
       answer ≡ lowestRefusal (judgeColumn n a) (c + width n b c)
@@ -50,16 +47,18 @@ pub record BlockFactored (n b c : ℕ) (m : List Float) (answer : CallResult) (m
       (a : Triangle) → FactoredTo n b a c m → lowestRefusal (judgeColumn n a) c ≡ success → T (accepted answer) →
       FactoredTo n b a (c + width n b c) m′
 
--- The same, and all memory as it was where a column is refused.
+-- The same, and places before it and past it are as they were.
+pub record BlockFactored (n b c : ℕ) (m : List Float) (answer : CallResult) (m′ : List Float) : Type 0 where
+  pub kept : length m′ ≡ length m
+  pub before : (p : ℕ) → p < blockStart n c → getD m′ p nan ≡ getD m p nan
+  pub after : (p : ℕ) → blockStart n (c + width n b c) ≤ p → getD m′ p nan ≡ getD m p nan
+  pub judged : BlockJudged n b c m answer m′
+
+-- It is judged, and all memory is as it was where a column is refused.
 pub record BlockDone (n b c : ℕ) (m : List Float) (answer : CallResult) (m′ : List Float) : Type 0 where
   pub kept : length m′ ≡ length m
   pub restored : accepted answer ≡ false → m′ ≡ m
-  pub verdict :
-      (a : Triangle) → FactoredTo n b a c m → lowestRefusal (judgeColumn n a) c ≡ success →
-      answer ≡ lowestRefusal (judgeColumn n a) (c + width n b c)
-  pub finished :
-      (a : Triangle) → FactoredTo n b a c m → lowestRefusal (judgeColumn n a) c ≡ success → T (accepted answer) →
-      FactoredTo n b a (c + width n b c) m′
+  pub judged : BlockJudged n b c m answer m′
 
 -- a matrix of order n and work memory of the needed lengths
 pub record Sized (n b matrixLength workLength : ℕ) : Type 0 where
