@@ -73,17 +73,31 @@ pub record Source (len at w h sat sw sh s0 g count : ℕ) : Type 0 where
 abbrev pub sourceAt : List Float → ℕ → ℕ → ℕ → ℕ → ℕ → Float
 sourceAt m sat sw d r = rowAt m (sat + rowStart sw (d + r))
 
--- the value of entry (r, s) less its products with columns s0 .. s − 1 of the block column, which starts at place 0
+-- From here on the block column starts at place 0. The value of entry (r, s) of m less its products with columns s0 .. s − 1 as they stand in m′,
+-- which may be m itself.
+abbrev pub lessSolved : ℕ → ℕ → List Float → List Float → ℕ → ℕ → Float
+lessSolved w s0 m m′ r s =
+    minusProducts (rowAt m′ (rowStart w r + s0)) (rowAt m′ (rowStart w s + s0)) (s - s0) (getD m (rowStart w r + s) nan)
+
+abbrev pub quotientSolved : ℕ → ℕ → List Float → List Float → Float → ℕ → ℕ → Float
+quotientSolved w s0 m m′ diagonal r s = div binary64 (lessSolved w s0 m m′ r s) diagonal
+
+-- Column s is judged by its rows before h.
+abbrev pub judgeSolved : ℕ → ℕ → ℕ → ℕ → List Float → List Float → ℕ → CallResult
+judgeSolved c w h s0 m m′ s =
+    firstRefusal
+    (rule10 (c + s) (judged (lessSolved w s0 m m′ s s))
+    ∷ rule11 (c + s) (tabulate (h - s - 1) (λ i. quotientSolved w s0 m m′ (root (lessSolved w s0 m m′ s s)) (s + 1 + i) s)) ∷ [])
+
 abbrev pub lessPanel : ℕ → ℕ → ℕ → List Float → ℕ → Float
-lessPanel w s0 s m r =
-    minusProducts (rowAt m (rowStart w r + s0)) (rowAt m (rowStart w s + s0)) (s - s0) (getD m (rowStart w r + s) nan)
+lessPanel w s0 s m r = lessSolved w s0 m m r s
 
 abbrev pub columnRoot : ℕ → ℕ → ℕ → List Float → Float
 columnRoot w s0 s m = root (lessPanel w s0 s m s)
 
 -- row r of column s
 abbrev pub columnQuotient : ℕ → ℕ → ℕ → List Float → Float → ℕ → Float
-columnQuotient w s0 s m diagonal r = div binary64 (lessPanel w s0 s m r) diagonal
+columnQuotient w s0 s m diagonal r = quotientSolved w s0 m m diagonal r s
 
 -- the rows of column s from s + 1 to h − 1
 abbrev pub columnUnder : ℕ → ℕ → ℕ → List Float → Float → ℕ → List Float
@@ -105,32 +119,13 @@ pub record UnderFinished (w h s0 s : ℕ) (diagonal : Float) (m : List Float) (j
 
 -- Column s of the block column, which is column c + s of the matrix, is judged, and finished where it is accepted.
 pub record ColumnFinished (c w h s0 s : ℕ) (m : List Float) (answer : CallResult) (m′ : List Float) : Type 0 where
-  pub result :
-      answer
-      ≡ firstRefusal
-      (rule10 (c + s) (judged (lessPanel w s0 s m s))
-      ∷ rule11 (c + s) (columnUnder w s0 s m (columnRoot w s0 s m) h) ∷ [])
+  pub result : answer ≡ judgeSolved c w h s0 m m s
   pub kept : length m′ ≡ length m
   pub diagonal : T (accepted answer) → getD m′ (rowStart w s + s) nan ≡ columnRoot w s0 s m
   pub under :
       T (accepted answer) → (r : ℕ) → s < r → r < h → getD m′ (rowStart w r + s) nan ≡ columnQuotient w s0 s m (columnRoot w s0 s m) r
   pub outside :
       (p : ℕ) → ((r : ℕ) → s ≤ r → r < h → p ≢ rowStart w r + s) → getD m′ p nan ≡ getD m p nan
-
--- The value of entry (r, s) of m less its products with columns s0 .. s − 1 as they stand in m′.
-abbrev pub lessSolved : ℕ → ℕ → List Float → List Float → ℕ → ℕ → Float
-lessSolved w s0 m m′ r s =
-    minusProducts (rowAt m′ (rowStart w r + s0)) (rowAt m′ (rowStart w s + s0)) (s - s0) (getD m (rowStart w r + s) nan)
-
-abbrev pub quotientSolved : ℕ → ℕ → List Float → List Float → Float → ℕ → ℕ → Float
-quotientSolved w s0 m m′ diagonal r s = div binary64 (lessSolved w s0 m m′ r s) diagonal
-
--- Column s is judged by its rows before h.
-abbrev pub judgeSolved : ℕ → ℕ → ℕ → ℕ → List Float → List Float → ℕ → CallResult
-judgeSolved c w h s0 m m′ s =
-    firstRefusal
-    (rule10 (c + s) (judged (lessSolved w s0 m m′ s s))
-    ∷ rule11 (c + s) (tabulate (h - s - 1) (λ i. quotientSolved w s0 m m′ (root (lessSolved w s0 m m′ s s)) (s + 1 + i) s)) ∷ [])
 
 -- The rows before `top` of columns s0 .. end − 1 are finished, and accepted; `answer` is success where these are all columns before e, and else
 -- the refusal of column `end`. Nothing changes but these rows of columns s0 .. e − 1.
