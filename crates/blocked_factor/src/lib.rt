@@ -25,8 +25,8 @@ use kernels::gather8;
 use kernels::scatter8;
 use kernels::subtract_rising8;
 use shape::Shape;
+use shape::least;
 use update::BlockColumn;
-use update::least;
 use update::update_block;
 use update::update_panel;
 

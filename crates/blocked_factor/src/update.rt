@@ -1,7 +1,7 @@
 // A panel of a block column: up to 16 of its columns, from whose entries the products of an earlier block column, or of the block column's own
 // earlier columns, are subtracted.
 ghost use mathlib.Core.Path.{_≡_};
-ghost use Prim.Native.Nat.{ℕ, _+_, _-_, _*_, _≤_, _<_, min};
+ghost use Prim.Native.Nat.{ℕ, _+_, _-_, _*_, _≤_, _<_};
 ghost use lib.Dec.{T};
 ghost use lib.ListN.{length, getD};
 ghost use lib.Ieee.{nan};
@@ -14,19 +14,13 @@ use crate::kernel::pack_lane;
 use crate::kernel::update_part16;
 use crate::kernel::update16;
 use shape::Shape;
+use shape::least;
 
 // Where a block column starts in a memory, its columns and its rows.
 pub struct BlockColumn {
     pub start: usize,
     pub width: usize,
     pub rows: usize,
-}
-
-// The smaller of two numbers.
-pub fn least(a: usize, b: usize) -> usize
-    ensures { λ r. ⌜ r ≡ min a b ⌝ }
-{
-    if a < b { a } else { b }
 }
 
 // The entries from place y on, each less its products with a row of the source: the first is row `first`. The values from place x on are
