@@ -15,7 +15,7 @@ use Rattle.calls.specs.Arithmetic.{minusProducts}
 use Rattle.calls.proofs.Sequences.{tabulate-of, tabulate-same, tabulate-append, all-append}
 use Rattle.calls.proofs.Columns.{products-same}
 use Rattle.kernels.specs.Kernels.{Scattered}
-use Rattle.blocked_factor.specs.BlockColumns.{rowStart, rowAt, columnQuotient, RowsFinished, UnderFinished, columnFinite}
+use Rattle.blocked_factor.specs.BlockColumns.{rowStart, rowAt, columnQuotient, RowsFinished, columnFinite}
 use Rattle.blocked_factor.proofs.BlockRows.{row-next, row-lt, row-apart}
 
 -- ---- what is judged
@@ -183,17 +183,3 @@ module _
         outside = λ p none.
             then .outside p (λ r l h. none r (omega arith) h) ∙ before .outside p (λ r l h. none r l (omega arith));
       }
-
--- ---- all rows under the diagonal
-
-pub under-all :
-    (w h s0 s : ℕ) (d : Float) (m : List Float) (ok : Bool) (m′ : List Float) → RowsFinished w (s + 1) h s0 s d m ok m′ →
-    UnderFinished w h s0 s d m ok m′
-under-all w h s0 s d m ok m′ all-rows =
-    let count : h - (s + 1) ≡ h - s - 1 = omega arith in
-    record {
-      kept = all-rows .kept;
-      judged = all-rows .judged ∙ ap (λ n. all finite (rowsOf w s0 s m d (s + 1) n)) count;
-      under = λ r low high. all-rows .rows r (omega arith) high;
-      outside = λ p none. all-rows .outside p (λ r low high. none r (omega arith) high);
-    }

@@ -21,7 +21,7 @@ use Rattle.calls.specs.Triangles.{Triangle}
 use Rattle.calls.specs.Refusals.{success, refusal, accepted, firstRefusal, lowestRefusal, rule10, rule11}
 use Rattle.calls.proofs.Sequences.{tabulate-same, tabulate-append, length-tabulate, getD-tabulate, all-append, all-at, all-of}
 use Rattle.calls.proofs.Judging.{judged-root, lowest-found}
-use Rattle.blocked_factor.specs.BlockColumns.{rowStart, lessPanel, columnUnder, columnRoot, ColumnFinished, lessSolved, quotientSolved, judgeSolved, TopFinished, RowsSolved, columnFinite}
+use Rattle.blocked_factor.specs.BlockColumns.{rowStart, lessPanel, columnUnder, columnRoot, ColumnFinished, lessSolved, quotientSolved, judgeSolved, TopFinished, RowsSolved, columnFinite, LowestRefused}
 use Rattle.blocked_factor.specs.BlockStages.{factorEntry, judgeColumn, Stage, Judged, PanelFinished}
 use Rattle.blocked_factor.proofs.BlockRows.{row-lt, row-apart}
 use Rattle.blocked_factor.proofs.Solving.{less-same}
@@ -399,7 +399,7 @@ module _
       subst (λ x. T (finite x)) (sym (getD-tabulate f (h - top) i nan short))
       (rest .passed t (top + i) s (omega arith) (omega arith) left right))
 
-  pub panel-passed : ((s : ℕ) → s0 ≤ s → s < end → T (columnFinite w top h m₂ s)) → PanelFinished c w h s0 e m answer m₂
+  panel-passed : ((s : ℕ) → s0 ≤ s → s < end → T (columnFinite w top h m₂ s)) → PanelFinished c w h s0 e m answer m₂
   panel-passed each =
       record {
         kept = rest .kept ∙ first .kept;
@@ -437,23 +437,43 @@ module _
   pub panel-finite : T ok → PanelFinished c w h s0 e m answer m₂
   panel-finite t = panel-passed (rest-passed t)
 
+  -- where a row from `top` on is not finite, a column before `end` has it
+  some-column : ok ≡ false → (g : ℕ) → LowestRefused w top h s0 end m₂ g → g < end
+  some-column fails g lowest =
+      elim (decLt g end) [
+        | yes p ↦ p
+        | no p ↦
+            absurd
+            (subst T fails
+            (rest .decided
+            (λ r s low high left right.
+            let f : ℕ → Float = λ i. getD m₂ (rowStart w (top + i) + s) nan in
+            let row : top + (r - top) ≡ r = omega arith in
+            let few : r - top < h - top = omega arith in
+            subst (λ x. T (finite x))
+            (getD-tabulate f (h - top) (r - top) nan few ∙ ap (λ q. getD m₂ (rowStart w q + s) nan) row)
+            (all-at finite (tabulate (h - top) f) (lowest .before s left (omega arith)) (r - top) nan
+            (omega (arith, length-tabulate f (h - top)))))))
+      ]
+
   pub panel-failed :
-      (g : ℕ) → s0 ≤ g → g < end → ((s : ℕ) → s0 ≤ s → s < g → T (columnFinite w top h m₂ s)) → columnFinite w top h m₂ g ≡ false →
-      PanelFinished c w h s0 e m (refusal 11 (c + g) zero64) m₂
-  panel-failed g left right each fails =
+      ok ≡ false → (g : ℕ) → LowestRefused w top h s0 end m₂ g → PanelFinished c w h s0 e m (refusal 11 (c + g) zero64) m₂
+  panel-failed fails g lowest =
+      let left : s0 ≤ g = lowest .low in
+      let right : g < end = some-column fails g lowest in
       record {
         kept = rest .kept ∙ first .kept;
         beyond = panel-beyond;
         judged = λ n a order stage start.
             let same : refusal 11 (c + g) zero64 ≡ judgeColumn n a (c + g) =
-            sym (judged-failed g left right fails) ∙ column-judged n a order stage start g left (omega arith) (omega (arith, first .high))
+            sym (judged-failed g left right (lowest .here right)) ∙ column-judged n a order stage start g left (omega arith) (omega (arith, first .high))
             in
             record {
               verdict =
                   same
                   ∙ sym
                   (lowest-found (judgeColumn n a) (c + g) (c + e) (omega (arith, first .high))
-                  (lowest-to n a order stage start g left (omega arith) each) (ap accepted (sym same)));
+                  (lowest-to n a order stage start g left (omega arith) (lowest .before)) (ap accepted (sym same)));
               stage = λ z. absurd z;
             };
       }

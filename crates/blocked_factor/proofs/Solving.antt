@@ -8,11 +8,11 @@ use mathlib.Core.List.{List}
 use lib.Dec.{T}
 use lib.ListN.{getD}
 use lib.Ieee.{Float, nan, binary64, div}
-use lib.Ieee.Fits.{and-l, and-r}
+use lib.Ieee.Fits.{and-i, and-l, and-r}
 use Rattle.binary64.specs.Kinds.{finite}
 use Rattle.calls.specs.Sequences.{tabulate}
 use Rattle.calls.specs.Arithmetic.{minusProducts}
-use Rattle.calls.proofs.Sequences.{length-tabulate, getD-tabulate, all-at}
+use Rattle.calls.proofs.Sequences.{length-tabulate, getD-tabulate, all-at, all-of}
 use Rattle.calls.proofs.Columns.{products-same}
 use Rattle.blocked_factor.specs.BlockColumns.{rowStart, rowAt, lessSolved, quotientSolved, columnQuotient, RowsFinished, RowsSolved}
 use Rattle.blocked_factor.proofs.BlockRows.{row-apart}
@@ -44,6 +44,7 @@ module _ (w from to s0 e : ℕ) (m : List Float) (none : (r s : ℕ) → from �
         kept = refl;
         rows = λ r s low high left right. absurd (none r s low high left right);
         passed = λ t r s low high left right. absurd (none r s low high left right);
+        decided = λ each. tt;
         outside = λ p out. refl;
       }
 
@@ -88,6 +89,17 @@ module _
       ∙ sym (column .rows r low high))
       (all-at finite (tabulate (to - from) f) (rw (column .judged) at t) (r - from) nan (omega (arith, length-tabulate f (to - from))))
 
+  here-decided : ((r : ℕ) → from ≤ r → r < to → T (finite (getD m₂ (rowStart w r + s) nan))) → T ok′
+  here-decided each =
+      let f : ℕ → Float = λ i. columnQuotient w s0 s m₁ (getD m₁ (rowStart w s + s) nan) (from + i) in
+      subst T (sym (column .judged))
+      (all-of finite (tabulate (to - from) f) nan
+      (λ i few.
+      let short : i < to - from = omega (arith, length-tabulate f (to - from)) in
+      subst (λ x. T (finite x))
+      (column .rows (from + i) (omega arith) (omega arith) ∙ sym (getD-tabulate f (to - from) i nan short))
+      (each (from + i) (omega arith) (omega arith))))
+
   pub solved-column : RowsSolved w from to s0 (s + 1) m (ok && ok′) m₂
   solved-column =
       record {
@@ -115,6 +127,13 @@ module _
                   let same : k ≡ s = omega arith in
                   rw same (here r low high (and-r ok ok′ t))
             ];
+        decided = λ each.
+            and-i ok ok′
+            (before .decided
+            (λ r k low high l u.
+            subst (λ x. T (finite x)) (column-kept r k (omega arith) (omega arith) (λ z. absurd (omega arith)))
+            (each r k low high l (omega arith))))
+            (here-decided (λ r low high. each r s low high left (omega arith)));
         outside = λ p none.
             column .outside p (λ r low high. none r s low high left (omega arith))
             ∙ before .outside p (λ r k low high l u. none r k low high l (omega arith));
@@ -160,6 +179,12 @@ module _
                   subst (λ x. T (finite x)) (sym (upper-kept r s p (omega arith) (omega arith))) (before .passed (and-l ok ok′ t) r s low p l u)
               | no p ↦ then .passed (and-r ok ok′ t) r s (omega arith) high l u
             ];
+        decided = λ each.
+            and-i ok ok′
+            (before .decided
+            (λ r s low high l u.
+            subst (λ x. T (finite x)) (upper-kept r s high (omega arith) (omega arith)) (each r s low (omega arith) l u)))
+            (then .decided (λ r s low high l u. each r s (omega arith) high l u));
         outside = λ p none.
             then .outside p (λ r s low high. none r s (omega arith) high)
             ∙ before .outside p (λ r s low high. none r s low (omega arith));

@@ -110,13 +110,6 @@ pub record RowsFinished (w from to s0 s : ℕ) (diagonal : Float) (m : List Floa
   pub rows : (r : ℕ) → from ≤ r → r < to → getD m′ (rowStart w r + s) nan ≡ columnQuotient w s0 s m diagonal r
   pub outside : (p : ℕ) → ((r : ℕ) → from ≤ r → r < to → p ≢ rowStart w r + s) → getD m′ p nan ≡ getD m p nan
 
--- The same of all rows under the diagonal.
-pub record UnderFinished (w h s0 s : ℕ) (diagonal : Float) (m : List Float) (judgement : Bool) (m′ : List Float) : Type 0 where
-  pub kept : length m′ ≡ length m
-  pub judged : judgement ≡ all finite (columnUnder w s0 s m diagonal h)
-  pub under : (r : ℕ) → s < r → r < h → getD m′ (rowStart w r + s) nan ≡ columnQuotient w s0 s m diagonal r
-  pub outside : (p : ℕ) → ((r : ℕ) → s < r → r < h → p ≢ rowStart w r + s) → getD m′ p nan ≡ getD m p nan
-
 -- Column s of the block column, which is column c + s of the matrix, is judged, and finished where it is accepted.
 pub record ColumnFinished (c w h s0 s : ℕ) (m : List Float) (answer : CallResult) (m′ : List Float) : Type 0 where
   pub result : answer ≡ judgeSolved c w h s0 m m s
@@ -144,14 +137,15 @@ pub record TopFinished (c w top s0 e : ℕ) (m : List Float) (end : ℕ) (answer
   pub outside :
       (p : ℕ) → ((r s : ℕ) → s0 ≤ s → s < e → s ≤ r → r < top → p ≢ rowStart w r + s) → getD m′ p nan ≡ getD m p nan
 
--- Rows from `from` to `to` − 1, which are below these columns, are finished in columns s0 .. e − 1, and nothing else changes. They are finite
--- where the judgement is true.
+-- Rows from `from` to `to` − 1, which are below these columns, are finished in columns s0 .. e − 1, and nothing else changes. The judgement is
+-- whether they are finite.
 pub record RowsSolved (w from to s0 e : ℕ) (m : List Float) (judgement : Bool) (m′ : List Float) : Type 0 where
   pub kept : length m′ ≡ length m
   pub rows :
       (r s : ℕ) → from ≤ r → r < to → s0 ≤ s → s < e →
       getD m′ (rowStart w r + s) nan ≡ quotientSolved w s0 m m′ (getD m′ (rowStart w s + s) nan) r s
   pub passed : T judgement → (r s : ℕ) → from ≤ r → r < to → s0 ≤ s → s < e → T (finite (getD m′ (rowStart w r + s) nan))
+  pub decided : ((r s : ℕ) → from ≤ r → r < to → s0 ≤ s → s < e → T (finite (getD m′ (rowStart w r + s) nan))) → T judgement
   pub outside :
       (p : ℕ) → ((r s : ℕ) → from ≤ r → r < to → s0 ≤ s → s < e → p ≢ rowStart w r + s) → getD m′ p nan ≡ getD m p nan
 

@@ -1,4 +1,4 @@
-// The blocked factor: block column by block column, each less the products of those before it, then finished column by column.
+// The blocked factor: block column by block column, each less the products of those before it, then finished panel by panel.
 ghost use mathlib.Core.Path.{_≡_};
 ghost use Prim.Native.Nat.{ℕ, _+_, _-_, _*_, _≤_, _<_};
 ghost use lib.ListN.{length, getD, replicate};
@@ -9,7 +9,7 @@ ghost use Rattle.shape.specs.Places.{blockStart, width, blockWork};
 ghost use Rattle.calls.specs.Arithmetic.{minusProducts};
 ghost use Rattle.calls.specs.Calls.{DoneAs, factorize};
 ghost use Rattle.kernels.specs.Kernels.{Filled};
-ghost use Rattle.blocked_factor.specs.BlockColumns.{rowStart, rowAt, ColumnFinished, RowsFinished, UnderFinished, TopFinished, RowsSolved, columnFinite, LowestRefused, PanelUpdated};
+ghost use Rattle.blocked_factor.specs.BlockColumns.{rowStart, rowAt, ColumnFinished, RowsFinished, TopFinished, RowsSolved, columnFinite, LowestRefused, PanelUpdated};
 ghost use Rattle.blocked_factor.specs.BlockStages.{PanelFinished, ColumnsFactored};
 ghost use Rattle.blocked_factor.specs.BlockSteps.{BlockAt, BlockFactored, BlockDone, Saved, Sized, BlocksDone, rowOf};
 
@@ -101,7 +101,7 @@ fn finish_rows8(
 // The rows under the diagonal of column s, eight at a time. True where all are finite.
 fn finish_rows(part: &mut [f64], width: usize, rows: usize, s0: usize, s: usize, root: f64) -> bool
     requires { ⌜ (s0 ≤ s) × (s < width) × (s < rows) × (rows ≤ maxOrder) × (rowStart width rows ≤ length (now part)) ⌝ }
-    ensures { λ r. ⌜ UnderFinished width rows s0 s root (now (part .entry)) r (now (part .exit)) ⌝ }
+    ensures { λ r. ⌜ RowsFinished width (s + 1) rows s0 s root (now (part .entry)) r (now (part .exit)) ⌝ }
 {
     let mut finite = true;
     let mut r = s + 1;
@@ -193,14 +193,15 @@ fn finish_columns8(part: &mut [f64], width: usize, r: usize, s0: usize, end: usi
     let mut s = s0;
     while s < end {
         let root = part[Shape::place_in_block(width, s, 0) + s];
-        let eight = finish_rows8(part, at, width, r, s0, s, root);
-        finite = finite & eight;
+        let column = finish_rows8(part, at, width, r, s0, s, root);
+        finite = finite & column;
         s += 1;
     }
     finite
 }
 
-// The rows from `top` on in columns s0 .. end − 1, eight rows at a time, so that their places are found once for all columns.
+// The rows from `top` on in columns s0 .. end − 1, eight rows at a time, so that their places are found once for all columns. True where all are
+// finite.
 fn finish_below(
     part: &mut [f64],
     width: usize,
@@ -279,11 +280,7 @@ fn finish_panel(
         return first.result;
     }
     let s = lowest_refused(part, width, top, rows, s0, first.end);
-    if s < first.end {
-        calls::refusal(11, c + s)
-    } else {
-        first.result
-    }
+    calls::refusal(11, c + s)
 }
 
 // The g columns from s0 on: less the products of the block column's own earlier columns, then finished.

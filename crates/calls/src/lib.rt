@@ -1,4 +1,4 @@
-// What the six calls share: their kinds, their result, and the two loops over a part of memory; the checks before any work are in rules.rt.
+// What the six calls share: their kinds, their result, and the loops that test and clear a part of memory; the checks before any work are in rules.rt.
 ghost use mathlib.Core.Path.{_≡_};
 ghost use Prim.Native.Nat.{_*_, _≤_};
 ghost use lib.ListN.{length, take, replicate};
@@ -63,7 +63,7 @@ fn each_finite(values: &[f64]) -> bool
     passed
 }
 
-// The same of the first four quarters, side by side: memory delivers four streams faster than one.
+// The same of the first 4 · quarter values, as four runs side by side: memory delivers four streams faster than one.
 fn quarters_finite(values: &[f64], quarter: usize) -> bool
     requires { ⌜ 4 * quarter ≤ length (now values) ⌝ }
     ensures { λ r. ⌜ r ≡ all finite (take (4 * quarter) (now (values .entry))) ⌝ }

@@ -4,7 +4,7 @@ use native.Mathlib.Omega.{arith}
 use mathlib.Core.Path.{_≡_, subst, sym}
 use lib.Dec.{T}
 use Rattle.blocked_factor.proofs.BlockRows.{row-mono}
-use Rattle.blocked_factor.proofs.PanelVerdicts.{panel-passed, panel-finite, panel-failed}
+use Rattle.blocked_factor.proofs.PanelVerdicts.{panel-finite, panel-failed}
 use borrow.Author.Needs.{needs}
 use Rattle.blocked_factor.proofs.finish_panel.Statement.{statement}
 use Rattle.blocked_factor.proofs.finish_panel.Tie as tie
@@ -27,9 +27,8 @@ finish-top-requires c κs =
 
 finish-below-requires : tie.Need-finish-below-requires
 finish-below-requires c κs =
-    let entry = c .before .before .before .before .before .before in
-    let a = entry .args in
-    let pre = entry .pre in
+    let a = c .before .before .before .before .before .before .args in
+    let pre = c .before .before .before .before .before .before .pre in
     let all : a .rows - 8 * ((a .rows - a .e) / 8) + 8 * ((a .rows - a .e) / 8) ≡ a .rows = omega (arith, pre) in
     let first = c .before .before .before .finish-top .ensures in
     rw all (omega (arith, pre, first .kept, first .low, first .high))
@@ -39,9 +38,8 @@ same-length c = search needs
 
 returns : tie.Need-returns
 returns c =
-    let entry = c .before .before .before .before .before .before .before .before .before .before .before in
-    let a = entry .args in
-    let pre = entry .pre in
+    let a = c .before .before .before .before .before .before .before .before .before .before .before .args in
+    let pre = c .before .before .before .before .before .before .before .before .before .before .before .pre in
     let top = a .rows - 8 * ((a .rows - a .e) / 8) in
     let all : top + 8 * ((a .rows - a .e) / 8) ≡ a .rows = omega (arith, pre) in
     let first = c .before .before .before .before .before .before .before .before .finish-top in
@@ -64,36 +62,16 @@ same-length-2 c = search needs
 
 returns-2 : tie.Need-returns-2
 returns-2 c =
-    let entry = c .before .before .before .before .before .before .before .before .before .before .before .before .before .before .before in
-    let a = entry .args in
-    let pre = entry .pre in
+    let a = c .before .before .before .before .before .before .before .before .before .before .before .before .before .args in
+    let pre = c .before .before .before .before .before .before .before .before .before .before .before .before .before .pre in
     let top = a .rows - 8 * ((a .rows - a .e) / 8) in
     let all : top + 8 * ((a .rows - a .e) / 8) ≡ a .rows = omega (arith, pre) in
-    let first = c .before .before .before .before .before .before .before .before .before .before .before .before .finish-top in
-    let rest = c .before .before .before .before .before .before .before .before .finish-below in
-    let lowest = c .before .before .before .lowest-refused in
+    let first = c .before .before .before .before .before .before .before .before .before .before .finish-top in
+    let rest = c .before .before .before .before .before .before .finish-below in
     rw (c .refusal .ensures)
     (panel-failed (a .c) (a .width) (a .rows) (a .s0) (a .e) top (a .part .now) (first .last .0) _ (first .result .end) (first .result .result)
     (rest .result) (omega (arith, pre)) (omega (arith, pre)) (omega (arith, pre)) (omega arith) (first .ensures) (rw all at (rest .ensures))
-    (lowest .result) (lowest .ensures .low) (c .before .if2 .taken) (lowest .ensures .before) (lowest .ensures .here (c .before .if2 .taken)))
-
-same-length-3 : tie.Need-same-length-3
-same-length-3 c = search needs
-
-returns-3 : tie.Need-returns-3
-returns-3 c =
-    let entry = c .before .before .before .before .before .before .before .before .before .before .before .before .before .before .before in
-    let a = entry .args in
-    let pre = entry .pre in
-    let top = a .rows - 8 * ((a .rows - a .e) / 8) in
-    let all : top + 8 * ((a .rows - a .e) / 8) ≡ a .rows = omega (arith, pre) in
-    let first = c .before .before .before .before .before .before .before .before .before .before .before .before .finish-top in
-    let rest = c .before .before .before .before .before .before .before .before .finish-below in
-    let lowest = c .before .before .before .lowest-refused in
-    let none : lowest .result ≡ first .result .end = omega (arith, c .before .if2 .left, lowest .ensures .high) in
-    panel-passed (a .c) (a .width) (a .rows) (a .s0) (a .e) top (a .part .now) (first .last .0) _ (first .result .end) (first .result .result)
-    (rest .result) (omega (arith, pre)) (omega (arith, pre)) (omega (arith, pre)) (omega arith) (first .ensures) (rw all at (rest .ensures))
-    (rw none at (lowest .ensures .before))
+    (c .before .before .before .if1 .left) (c .before .lowest-refused .result) (c .before .lowest-refused .ensures))
 
 pub finish-panel-spec : {M : Type 1} → statement M
 finish-panel-spec =
@@ -110,6 +88,4 @@ finish-panel-spec =
     add-refusal
     refusal-requires
     same-length-2
-    returns-2
-    same-length-3
-    returns-3)
+    returns-2)

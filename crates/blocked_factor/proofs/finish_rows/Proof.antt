@@ -4,7 +4,7 @@ use native.Mathlib.Omega.{arith}
 use mathlib.Core.Path.{_≡_}
 use Rattle.blocked_factor.specs.BlockColumns.{RowsFinished}
 use Rattle.blocked_factor.proofs.BlockRows.{row-mono}
-use Rattle.blocked_factor.proofs.Finishing.{rows-none, rows-join, under-all}
+use Rattle.blocked_factor.proofs.Finishing.{rows-none, rows-join}
 use Rattle.blocked_factor.proofs.finish_rows.Statement.{statement}
 use Rattle.blocked_factor.proofs.finish_rows.Tie as tie
 
@@ -90,7 +90,7 @@ same-length c = c .before .loop .inv .2 .kept
 returns : tie.Need-returns Inv-loop μ-loop
 returns c =
     let e : c .before .loop .r ≡ c .before .before .before .args .rows = omega (arith, c .loop-test .left, c .before .loop .inv .1) in
-    under-all _ _ _ _ _ _ _ _ (rw e at (c .before .loop .inv .2))
+    rw e at (c .before .loop .inv .2)
 
 pub finish-rows-spec : {M : Type 1} → statement M
 finish-rows-spec =
