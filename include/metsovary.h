@@ -21,11 +21,13 @@
  *    7  a factor or solver: a matrix value is not finite                      its lowest position
  *    8  a solver: a right-hand-side value is not finite                       its lowest position
  *    9  a solver: a diagonal value is not greater than zero                   its lowest column
- *   10  a factor: a pivot is not greater than zero; value: the pivot          the column
- *   11  a factor: an entry below an accepted pivot is not finite              the column
- *   12  a solver: a value of a solution is not finite                         the right-hand side
+ *   10  a factor: a pivot is not greater than zero; value: the pivot          the lowest refused column
+ *   11  a factor: an entry below an accepted pivot is not finite              the lowest refused column
+ *   12  a solver: a y or an x, of the forward or backward substitution,       the lowest such right-hand side
+ *       is not finite
  *
- * The value is +0 except under 10. After 1 to 9 all memory is as it was. On success and after 10 to 12 the needed length of work memory is +0 and the rest as it was. */
+ * The value is +0 except under 10, where it may be minus infinity. After 1 to 9 all memory is as it was. On success and after 10 to 12 the needed length of
+ * work memory is +0 and the rest as it was. */
 #ifndef METSOVARY_H
 #define METSOVARY_H
 
