@@ -42,20 +42,6 @@ module _ (h w : ℕ) (part v₀ v : List Float) (full : w ≤ h) (size : length 
       rows-next coefficient w from r v₀ v value low le (omega arith) s
       (e ∙ rising-prefix (λ k. coefficient r k) part v at w (getD v r nan) (omega (arith, s .size)) (λ k p. row-entries w r at k part place))
 
--- eight rows loaded, reduced and stored
-pub rows8-done :
-    (w r : ℕ) (part v loaded reduced v′ : List Float) (places : ℕ → ℕ) → w ≤ length v →
-    ((s : ℕ) → s < 8 → getD loaded s nan ≡ getD v (r + s) nan) → ((s : ℕ) → s < 8 → places s ≡ placeInBlock w (r + s) 0) →
-    ((s : ℕ) → s < 8 → getD reduced s nan ≡ risingFrom part (places s) (take w v) (length (take w v)) (getD loaded s nan)) →
-    Replaced nan r 8 v reduced v′ → RowsSubtracted (entriesAt (placeInBlock w) part) w r (r + 8) v v′
-rows8-done w r part v loaded reduced v′ places fits load placed reduce whole =
-    replaced-of-filled _ (λ s. getD reduced s nan) r 8 (r + 8) v v′ refl whole
-    (λ s p.
-    reduce s p
-    ∙ rising-prefix (λ k. getD part (placeInBlock w (r + s) k) nan) part v (places s) w (getD loaded s nan) fits
-    (λ k q. row-entries w (r + s) (places s) k part (placed s p))
-    ∙ ap (minusProducts (λ k. getD part (placeInBlock w (r + s) k) nan) (λ k. getD v k nan) w) (load s p))
-
 -- ---- backward
 
 row-taken :

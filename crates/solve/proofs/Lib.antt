@@ -6,6 +6,7 @@ pub mod Factors
 pub mod Packed
 pub mod BlockPlaces
 pub mod BlockColumns
+pub mod Apart
 pub mod BlockTurns
 pub mod RightSides
 pub mod Outcomes

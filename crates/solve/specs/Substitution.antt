@@ -1,6 +1,6 @@
 -- What is promised of one block column in a substitution. Rows and columns count from its first; h is the number of its rows and w that of its
 -- columns, and its first w rows are its triangle. `coefficient r s` is the factor's entry in row r and column s.
-use Prim.Native.Nat.{ℕ, _-_, _≤_, _<_}
+use Prim.Native.Nat.{ℕ, _+_, _-_, _*_, _≤_, _<_}
 use mathlib.Core.Path.{_≡_}
 use mathlib.Core.List.{List}
 use lib.ListN.{length, getD}
@@ -8,6 +8,7 @@ use lib.Ieee.{Float, nan, binary64, sub, mul, div}
 use Rattle.shape.specs.Bounds.{maxOrder}
 use Rattle.shape.specs.Places.{blockStart}
 use Rattle.calls.specs.Arithmetic.{minusProducts}
+use Rattle.kernels.specs.Kernels.{Scattered}
 
 -- the entries that a memory holds at the places of a layout
 abbrev pub entriesAt : (ℕ → ℕ → ℕ) → List Float → ℕ → ℕ → Float
@@ -42,6 +43,12 @@ pub record TriangleForward (coefficient : ℕ → ℕ → Float) (w : ℕ) (v v�
 abbrev pub RowsSubtracted : (ℕ → ℕ → Float) → ℕ → ℕ → ℕ → List Float → List Float → Type 0
 RowsSubtracted coefficient w from to v v′ =
     RowsReplaced (λ r. minusProducts (λ k. coefficient r k) (λ k. getD v k nan) w (getD v r nan)) from to v v′
+
+-- they are subtracted from eight rows, w + t and those that follow it q rows apart
+abbrev pub RowsApart : (ℕ → ℕ → Float) → ℕ → ℕ → ℕ → List Float → List Float → Type 0
+RowsApart coefficient w q t v v′ =
+    Scattered 8 (λ s. w + t + s * q)
+    (λ s. minusProducts (λ k. coefficient (w + t + s * q) k) (λ k. getD v k nan) w (getD v (w + t + s * q) nan)) v v′
 
 -- both
 pub record ForwardDone (coefficient : ℕ → ℕ → Float) (h w : ℕ) (v v′ : List Float) : Type 0 where

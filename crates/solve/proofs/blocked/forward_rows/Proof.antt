@@ -1,36 +1,38 @@
--- `solve::blocked::forward_rows` meets its contract. The invariant of its loop: the products are subtracted from the rows before r. Assumes nothing.
-use Prim.Native.Nat.{_+_, _-_, _≤_}
+-- `solve::blocked::forward_rows` meets its contract. The invariant of its loop: the first t rows of each eighth are done. Assumes nothing.
+use Prim.Native.Nat.{_+_, _-_, _*_, _/_, _≤_}
 use native.Mathlib.Omega.{arith}
-use mathlib.Core.Path.{_∙_}
+use mathlib.Core.Path.{_≡_, _∙_}
 use denote.Ref.{now}
 use Rattle.shape.specs.Places.{placeInBlock}
 use Rattle.solve.specs.Substitution.{entriesAt, RowsSubtracted}
-use Rattle.solve.proofs.Rows.{replaced-none, rows-join}
+use Rattle.solve.proofs.Rows.{rows-join}
 use Rattle.solve.proofs.BlockColumns.{rows-beside}
+use Rattle.solve.proofs.Apart.{EighthsDone, eighths-none, eighths-next, eighths-all}
 use Rattle.solve.proofs.blocked.forward_rows.Statement.{statement}
 use Rattle.solve.proofs.blocked.forward_rows.Tie as tie
 
 abbrev Inv-loop : tie.InvT-loop
-Inv-loop h w part work₀ r₀ work r = (w ≤ r) × (r ≤ h) × RowsSubtracted (entriesAt (placeInBlock w) part) w w r work₀ work
+Inv-loop h w part work₀ q t₀ work t = (t ≤ (h - w) / 8) × EighthsDone (entriesAt (placeInBlock w) part) w ((h - w) / 8) t work₀ work
 
 abbrev μ-loop : tie.MeasureT-loop
-μ-loop h w part work₀ r₀ work r = h - r
+μ-loop h w part work₀ q t₀ work t = (h - w) / 8 - t
+
+sub-q : tie.Need-sub-q Inv-loop μ-loop
+sub-q c = omega arith
 
 loop-holds : tie.Need-loop-holds Inv-loop μ-loop
-loop-holds c = (omega arith, omega arith, replaced-none _ (c .before .before .args .w) (now (c .before .before .args .work)))
-
-add-loop : tie.Need-add-loop Inv-loop μ-loop
-add-loop c = omega arith
+loop-holds c =
+    let a = c .before .before .args in
+    (omega arith, eighths-none (entriesAt (placeInBlock (a .w)) (now (a .part))) (a .w) ((a .h - a .w) / 8) (now (a .work)))
 
 forward-rows8-requires : tie.Need-forward-rows8-requires Inv-loop μ-loop
 forward-rows8-requires c κs =
-    let p = c .before .before .before .before .before .pre in
     let a = c .before .before .before .before .before .args in
     let l = c .before .before .loop in
-    (rows-beside (a .h) (a .w) (now (a .part)) (now (a .work)) (l .work) p (l .inv .2 .size), (omega arith, omega arith))
+    (rows-beside (a .h) (a .w) (now (a .part)) (now (a .work)) (l .work) (c .before .before .before .before .before .pre) (l .inv .1 .size), omega arith)
 
-add-r : tie.Need-add-r Inv-loop μ-loop
-add-r c = omega arith
+add-t : tie.Need-add-t Inv-loop μ-loop
+add-t c = omega arith
 
 loop-less : tie.Need-loop-less Inv-loop μ-loop
 loop-less c = omega arith
@@ -40,27 +42,34 @@ loop-again c =
     let a = c .before .before .before .before .before .before .before .before .args in
     let l = c .before .before .before .before .before .loop in (
       omega arith,
-      omega arith,
-      rows-join (entriesAt (placeInBlock (a .w)) (now (a .part))) (a .w) (a .w) (l .r) (l .r + 8) (now (a .work)) (l .work) _
-          (omega arith) (l .inv .0) (omega arith) (l .inv .2) (c .before .before .forward-rows8 .ensures),
+      eighths-next (entriesAt (placeInBlock (a .w)) (now (a .part))) (a .w) ((a .h - a .w) / 8) (l .t) (now (a .work)) (l .work) _ (c .before .before .before .before .loop-test .taken)
+          (l .inv .1) (c .before .before .forward-rows8 .ensures),
     )
+
+mul-forward-last-rows : tie.Need-mul-forward-last-rows Inv-loop μ-loop
+mul-forward-last-rows c = omega arith
+
+add-forward-last-rows : tie.Need-add-forward-last-rows Inv-loop μ-loop
+add-forward-last-rows c = omega arith
 
 forward-last-rows-requires : tie.Need-forward-last-rows-requires Inv-loop μ-loop
 forward-last-rows-requires c κs =
-    let p = c .before .before .before .before .before .pre in
     let a = c .before .before .before .before .before .args in
     let l = c .before .before .loop in
-    (rows-beside (a .h) (a .w) (now (a .part)) (now (a .work)) (l .work) p (l .inv .2 .size), (omega arith, omega arith))
+    (rows-beside (a .h) (a .w) (now (a .part)) (now (a .work)) (l .work) (c .before .before .before .before .before .pre) (l .inv .1 .size), (omega arith, omega arith))
 
 same-length : tie.Need-same-length Inv-loop μ-loop
-same-length c = c .before .before .forward-last-rows .ensures .size ∙ c .before .before .before .before .before .loop .inv .2 .size
+same-length c = c .before .before .forward-last-rows .ensures .size ∙ c .before .before .before .before .before .loop .inv .1 .size
 
 returns : tie.Need-returns Inv-loop μ-loop
 returns c =
     let a = c .before .before .before .before .before .before .before .before .args in
     let l = c .before .before .before .before .before .loop in
-    rows-join (entriesAt (placeInBlock (a .w)) (now (a .part))) (a .w) (a .w) (l .r) (a .h) (now (a .work)) (l .work) _
-    (omega arith) (l .inv .0) (l .inv .1) (l .inv .2) (c .before .before .forward-last-rows .ensures)
+    let q = (a .h - a .w) / 8 in
+    let all : l .t ≡ q = omega arith in
+    let entries = entriesAt (placeInBlock (a .w)) (now (a .part)) in
+    rows-join entries (a .w) (a .w) (a .w + 8 * q) (a .h) (now (a .work)) (l .work) _ (omega arith) (omega arith) (omega arith)
+    (eighths-all entries (a .w) q (now (a .work)) (l .work) (rw all at (l .inv .1))) (c .before .before .forward-last-rows .ensures)
 
 pub forward-rows-spec : {M : Type 1} → statement M
 forward-rows-spec =
@@ -68,12 +77,14 @@ forward-rows-spec =
     (tie.spec
     Inv-loop
     μ-loop
+    sub-q
     loop-holds
-    add-loop
     forward-rows8-requires
-    add-r
+    add-t
     loop-less
     loop-again
+    mul-forward-last-rows
+    add-forward-last-rows
     forward-last-rows-requires
     same-length
     returns)

@@ -1,19 +1,53 @@
--- `solve::blocked::forward_rows8` meets its contract: eight rows are loaded, reduced and stored. Assumes nothing.
-use Prim.Native.Nat.{_+_}
+-- `solve::blocked::forward_rows8` meets its contract: eight rows are gathered, reduced and scattered. Assumes nothing.
+use Prim.Native.Nat.{ℕ, _+_, _-_, _*_, _<_}
 use native.Mathlib.Omega.{arith}
-use borrow.Author.Needs.{needs}
+use mathlib.Core.Path.{_≡_, _∙_}
 use denote.Ref.{now}
 use lib.ListN.{getD, length-take}
-use Rattle.solve.proofs.BlockPlaces.{room-under}
-use Rattle.solve.proofs.BlockColumns.{rows8-done}
+use Rattle.solve.proofs.BlockPlaces.{room-under, values-le}
+use Rattle.solve.proofs.Apart.{apart-same, apart-inside, place-apart, place-apart8, apart8-done}
+use borrow.Author.Needs.{needs}
 use Rattle.solve.proofs.blocked.forward_rows8.Statement.{statement}
 use Rattle.solve.proofs.blocked.forward_rows8.Tie as tie
 
-load8-requires : tie.Need-load8-requires
-load8-requires c κs = search needs
+place-in-block-requires : tie.Need-place-in-block-requires
+place-in-block-requires c κs = search needs
 
-rows8-requires : tie.Need-rows8-requires
-rows8-requires c κs = search needs
+add-place-in-block : tie.Need-add-place-in-block
+add-place-in-block c = search needs
+
+place-in-block-requires-2 : tie.Need-place-in-block-requires-2
+place-in-block-requires-2 c κs = search needs
+
+sub-step : tie.Need-sub-step
+sub-step c =
+    let a = c .before .before .before .before .args in
+    omega (arith, c .place-in-block2 .ensures, c .before .place-in-block .ensures, place-apart (a .w) (a .w) (a .q) (omega arith))
+
+add-place-in-block-2 : tie.Need-add-place-in-block-2
+add-place-in-block-2 c = search needs
+
+place-in-block-requires-3 : tie.Need-place-in-block-requires-3
+place-in-block-requires-3 c κs = search needs
+
+apart8-requires : tie.Need-apart8-requires
+apart8-requires c κs =
+    let a = c .before .before .before .before .before .args in
+    let most = values-le (a .h) (a .w) (omega arith) (omega arith) in (
+      omega (arith, c .place-in-block3 .ensures, most, room-under (a .h) (a .w) (a .w + a .t) (omega arith) (omega arith) (omega arith) (omega arith)),
+      omega (arith, c .before .place-in-block2 .ensures, most, room-under (a .h) (a .w) (a .w + a .q) (omega arith) (omega arith) (omega arith) (omega arith)),
+    )
+
+add-apart8 : tie.Need-add-apart8
+add-apart8 c = search needs
+
+apart8-requires-2 : tie.Need-apart8-requires-2
+apart8-requires-2 c κs = search needs
+
+gather8-requires : tie.Need-gather8-requires
+gather8-requires c κs =
+    let a = c .before .before .before .before .before .before .before .before .args in
+    λ s few. omega (arith, c .before .apart82 .ensures s few, apart-inside (a .q) s (a .t) few (c .before .before .before .before .before .before .before .before .pre .1 .0))
 
 slice-reshare-prefix-subtract-rising8 : tie.Need-slice-reshare-prefix-subtract-rising8
 slice-reshare-prefix-subtract-rising8 c = search needs
@@ -23,38 +57,55 @@ slice-aggregate-subtract-rising8 c = simp length-take (omega arith)
 
 subtract-rising8-requires : tie.Need-subtract-rising8-requires
 subtract-rising8-requires c κs =
-    let a = c .before .before .before .before .before .before .args in
-    λ s h. simp length-take (omega (
+    let a = c .before .before .before .before .before .before .before .before .before .before .args in
+    let step : c .before .before .before .before .before .before .place-in-block2 .result - c .before .before .before .before .before .before .before .place-in-block .result ≡ a .q * a .w =
+    omega (arith, c .before .before .before .before .before .before .place-in-block2 .ensures, c .before .before .before .before .before .before .before .place-in-block .ensures, place-apart (a .w) (a .w) (a .q) (omega arith))
+    in
+    λ s few. simp length-take (omega (
       arith,
-      c .before .rows8 .ensures s h,
-      room-under (a .h) (a .w) (a .r + s) (omega arith) (omega arith)
-          (omega arith) (omega arith),
+      c .before .before .before .before .apart8 .ensures s few ∙ place-apart8 (a .w) (a .t) (a .q) s _ _ step (c .before .before .before .before .before .place-in-block3 .ensures),
+      apart-inside (a .q) s (a .t) few (c .before .before .before .before .before .before .before .before .before .before .pre .1 .0),
+      room-under (a .h) (a .w) (a .w + a .t + s * a .q) (omega arith) (omega arith) (omega arith) (omega (arith, apart-inside (a .q) s (a .t) few (c .before .before .before .before .before .before .before .before .before .before .pre .1 .0))),
     ))
 
-store8-requires : tie.Need-store8-requires
-store8-requires c κs = search needs
+scatter8-requires : tie.Need-scatter8-requires
+scatter8-requires c κs =
+    let a = c .before .before .before .before .before .before .before .before .before .before .before .before .args in
+    let rows = c .before .before .before .before .before .apart82 .ensures in (
+      λ s few. omega (arith, rows s few, apart-inside (a .q) s (a .t) few (c .before .before .before .before .before .before .before .before .before .before .before .before .pre .1 .0)),
+      λ s s′ few few′ e. apart-same (a .q) s s′ (a .t) (a .t) (c .before .before .before .before .before .before .before .before .before .before .before .before .pre .1 .0) (c .before .before .before .before .before .before .before .before .before .before .before .before .pre .1 .0) (omega (arith, rows s few, rows s′ few′)) .0,
+    )
 
 same-length : tie.Need-same-length
 same-length c = search needs
 
 returns : tie.Need-returns
 returns c =
-    let load8 = c .before .before .before .before .before .before .before .load8 in
-    let subtract-rising8 = c .before .before .before .before .subtract-rising8 in
-    let a = c .before .before .before .before .before .before .before .before .before .before .before .args in
-    let places = c .before .before .before .before .before .before .rows8 in
-    rows8-done (a .w) (a .r) (now (a .part)) (now (a .work)) (load8 .result) (subtract-rising8 .result) _ (λ s. getD (places .result) s 0)
-    (omega arith) (load8 .ensures) (places .ensures) (subtract-rising8 .ensures) (c .before .before .store8 .ensures)
+    let a = c .before .before .before .before .before .before .before .before .before .before .before .before .before .before .before .args in
+    let step : c .before .before .before .before .before .before .before .before .before .before .before .place-in-block2 .result - c .before .before .before .before .before .before .before .before .before .before .before .before .place-in-block .result ≡ a .q * a .w =
+    omega (arith, c .before .before .before .before .before .before .before .before .before .before .before .place-in-block2 .ensures, c .before .before .before .before .before .before .before .before .before .before .before .before .place-in-block .ensures, place-apart (a .w) (a .w) (a .q) (omega arith))
+    in
+    apart8-done (a .w) (a .q) (a .t) (now (a .part)) (now (a .work)) (c .before .before .before .before .before .before .gather8 .result) (c .before .before .before .before .subtract-rising8 .result) _ (λ (s : ℕ). getD (c .before .before .before .before .before .before .before .before .before .apart8 .result) s 0)
+    (λ (s : ℕ). getD (c .before .before .before .before .before .before .before .before .apart82 .result) s 0) (omega arith) (c .before .before .before .before .before .before .before .before .apart82 .ensures) (c .before .before .before .before .before .before .gather8 .ensures)
+    (λ s few. c .before .before .before .before .before .before .before .before .before .apart8 .ensures s few ∙ place-apart8 (a .w) (a .t) (a .q) s _ _ step (c .before .before .before .before .before .before .before .before .before .before .place-in-block3 .ensures)) (c .before .before .before .before .subtract-rising8 .ensures) (c .before .before .scatter8 .ensures)
 
 pub forward-rows8-spec : {M : Type 1} → statement M
 forward-rows8-spec =
     tie.close
     (tie.spec
-    load8-requires
-    rows8-requires
+    place-in-block-requires
+    add-place-in-block
+    place-in-block-requires-2
+    sub-step
+    add-place-in-block-2
+    place-in-block-requires-3
+    apart8-requires
+    add-apart8
+    apart8-requires-2
+    gather8-requires
     slice-reshare-prefix-subtract-rising8
     slice-aggregate-subtract-rising8
     subtract-rising8-requires
-    store8-requires
+    scatter8-requires
     same-length
     returns)
