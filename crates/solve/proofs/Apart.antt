@@ -1,7 +1,6 @@
 -- Rows below a triangle, eight at a time, one of each eighth. Assumes nothing.
 use Prim.Native.Nat.{ℕ, zero, suc, _+_, _-_, _*_, _≤_, _<_}
-use native.Mathlib.Nat.{zero-mul, suc-mul, mul-assoc, mul-le-mul-right, add-zero, add-suc}
-use native.Mathlib.Numerals.{add-one}
+use native.Mathlib.Nat.{zero-mul, suc-mul, mul-assoc, mul-le-mul-right, add-zero}
 use native.Mathlib.Omega.{arith}
 use native.Mathlib.Decide.{decLt}
 use mathlib.Core.Path.{_≡_, refl, sym, ap, _∙_}
@@ -19,12 +18,12 @@ use Rattle.solve.proofs.BlockPlaces.{row-entries}
 
 -- ---- numbers as i + s · q, i below q
 
-pub record Split (q m r : ℕ) : Type 0 where
-  pub s : ℕ
-  pub i : ℕ
-  pub few : s < m
-  pub short : i < q
-  pub sum : i + s * q ≡ r
+record Split (q m r : ℕ) : Type 0 where
+  s : ℕ
+  i : ℕ
+  few : s < m
+  short : i < q
+  sum : i + s * q ≡ r
 
 split : (q m r : ℕ) → r < m * q → Split q m r
 split q zero r h = absurd (omega (arith, zero-mul q))
@@ -66,10 +65,12 @@ place-apart w r (suc k) low =
     ∙ place-in-block-next-row-under w (r + k) 0 (omega arith)
     ∙ omega (arith, place-apart w r k low, suc-mul k w)
 
-pub place-apart8 : (w t q s step from : ℕ) → step ≡ q * w → from ≡ placeInBlock w (w + t) 0 → from + s * step ≡ placeInBlock w (w + t + s * q) 0
-place-apart8 w t q s step from e place =
-    ap (λ x. from + s * x) e
-    ∙ omega (arith, place, sym (mul-assoc s q w), place-apart w (w + t) (s * q) (omega arith))
+pub place-apart8 :
+    (w t q s first next from : ℕ) → first ≡ placeInBlock w w 0 → next ≡ placeInBlock w (w + q) 0 → from ≡ placeInBlock w (w + t) 0 →
+    from + s * (next - first) ≡ placeInBlock w (w + t + s * q) 0
+place-apart8 w t q s first next from begins ends place =
+    let step : next - first ≡ q * w = omega (arith, place-apart w w q (omega arith)) in
+    ap (λ x. from + s * x) step ∙ omega (arith, sym (mul-assoc s q w), place-apart w (w + t) (s * q) (omega arith))
 
 -- ---- eight rows
 

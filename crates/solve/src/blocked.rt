@@ -36,7 +36,7 @@ fn forward_triangle(h: usize, w: usize, part: &[f64], work: &mut [f64])
     }
 }
 
-// Eight positions, `step` apart.
+// Eight positions, `step` apart. No place of a matrix is above 8,002,000.
 fn apart8(from: usize, step: usize) -> [usize; 8]
     requires { ⌜ (from ≤ 8002000) × (step ≤ 8002000) ⌝ }
     ensures { λ r. ⌜ ((s : ℕ) → s < 8 → getD r s 0 ≡ from + s * step) ⌝ }

@@ -13,7 +13,8 @@ next-le : (s step : ℕ) → s < 8 → (s + 1) * step ≤ 8 * step
 next-le s step few = mul-le-mul-right {m = s + 1} {n = 8} step (omega arith)
 
 abbrev Inv-loop : tie.InvT-loop
-Inv-loop from step positions₀ at₀ s₀ positions at s = (s ≤ 8) × (length positions₀ ≡ 8) × (at ≡ from + s * step) × (s * step ≤ 8 * step) × Stored 0 (λ q. from + q * step) positions₀ s positions
+Inv-loop from step positions₀ at₀ s₀ positions at s = (s ≤ 8) × (length positions₀ ≡ 8) × (at ≡ from + s * step) × (s * step ≤ 8 * step) × Stored 0
+    (λ q. from + q * step) positions₀ s positions
 
 abbrev μ-loop : tie.MeasureT-loop
 μ-loop from step positions₀ at₀ s₀ positions at s = 8 - s
@@ -38,10 +39,17 @@ loop-less c = omega arith
 
 loop-again : tie.Need-loop-again Inv-loop μ-loop
 loop-again c =
-    let a = c .before .before .args in
+    let entry = c .before .before in
+    let a = entry .args in
     let l = c .before .loop in
-    let more : (l .s + 1) * a .step ≡ l .s * a .step + a .step = rw (add-one (l .s)) (suc-mul (l .s) (a .step)) in
-    (omega arith, l .inv .1, omega (arith, more), next-le (l .s) (a .step) (omega arith), stored-next 0 _ _ (l .s) (l .positions) (l .at) (omega arith) (l .inv .4) (l .inv .2))
+    let more : (l .s + 1) * a .step ≡ l .s * a .step + a .step = rw (add-one (l .s)) (suc-mul (l .s) (a .step)) in (
+      omega arith,
+      l .inv .1,
+      omega (arith, more),
+      next-le (l .s) (a .step) (omega arith),
+      stored-next 0 _ _ (l .s) (l .positions) (l .at)
+          (omega arith) (l .inv .4) (l .inv .2),
+    )
 
 returns : tie.Need-returns Inv-loop μ-loop
 returns c = λ s h. c .before .loop .inv .4 .done s (omega arith)

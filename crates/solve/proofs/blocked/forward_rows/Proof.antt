@@ -4,7 +4,7 @@ use native.Mathlib.Omega.{arith}
 use mathlib.Core.Path.{_≡_, _∙_}
 use denote.Ref.{now}
 use Rattle.shape.specs.Places.{placeInBlock}
-use Rattle.solve.specs.Substitution.{entriesAt, RowsSubtracted}
+use Rattle.solve.specs.Substitution.{entriesAt}
 use Rattle.solve.proofs.Rows.{rows-join}
 use Rattle.solve.proofs.BlockColumns.{rows-beside}
 use Rattle.solve.proofs.Apart.{EighthsDone, eighths-none, eighths-next, eighths-all}
@@ -27,9 +27,10 @@ loop-holds c =
 
 forward-rows8-requires : tie.Need-forward-rows8-requires Inv-loop μ-loop
 forward-rows8-requires c κs =
-    let a = c .before .before .before .before .before .args in
+    let entry = c .before .before .before .before .before in
+    let a = entry .args in
     let l = c .before .before .loop in
-    (rows-beside (a .h) (a .w) (now (a .part)) (now (a .work)) (l .work) (c .before .before .before .before .before .pre) (l .inv .1 .size), omega arith)
+    (rows-beside (a .h) (a .w) (now (a .part)) (now (a .work)) (l .work) (entry .pre) (l .inv .1 .size), omega arith)
 
 add-t : tie.Need-add-t Inv-loop μ-loop
 add-t c = omega arith
@@ -39,10 +40,12 @@ loop-less c = omega arith
 
 loop-again : tie.Need-loop-again Inv-loop μ-loop
 loop-again c =
-    let a = c .before .before .before .before .before .before .before .before .args in
+    let entry = c .before .before .before .before .before .before .before .before in
+    let a = entry .args in
     let l = c .before .before .before .before .before .loop in (
       omega arith,
-      eighths-next (entriesAt (placeInBlock (a .w)) (now (a .part))) (a .w) ((a .h - a .w) / 8) (l .t) (now (a .work)) (l .work) _ (c .before .before .before .before .loop-test .taken)
+      eighths-next (entriesAt (placeInBlock (a .w)) (now (a .part))) (a .w) ((a .h - a .w) / 8) (l .t) (now (a .work)) (l .work) _
+          (c .before .before .before .before .loop-test .taken)
           (l .inv .1) (c .before .before .forward-rows8 .ensures),
     )
 
@@ -54,9 +57,10 @@ add-forward-last-rows c = omega arith
 
 forward-last-rows-requires : tie.Need-forward-last-rows-requires Inv-loop μ-loop
 forward-last-rows-requires c κs =
-    let a = c .before .before .before .before .before .args in
+    let entry = c .before .before .before .before .before in
+    let a = entry .args in
     let l = c .before .before .loop in
-    (rows-beside (a .h) (a .w) (now (a .part)) (now (a .work)) (l .work) (c .before .before .before .before .before .pre) (l .inv .1 .size), (omega arith, omega arith))
+    (rows-beside (a .h) (a .w) (now (a .part)) (now (a .work)) (l .work) (entry .pre) (l .inv .1 .size), (omega arith, omega arith))
 
 same-length : tie.Need-same-length Inv-loop μ-loop
 same-length c = c .before .before .forward-last-rows .ensures .size ∙ c .before .before .before .before .before .loop .inv .1 .size

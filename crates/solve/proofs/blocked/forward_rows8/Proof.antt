@@ -1,7 +1,7 @@
 -- `solve::blocked::forward_rows8` meets its contract: eight rows are gathered, reduced and scattered. Assumes nothing.
-use Prim.Native.Nat.{ℕ, _+_, _-_, _*_, _<_}
+use Prim.Native.Nat.{ℕ, _+_, _-_, _*_}
 use native.Mathlib.Omega.{arith}
-use mathlib.Core.Path.{_≡_, _∙_}
+use mathlib.Core.Path.{_∙_}
 use denote.Ref.{now}
 use lib.ListN.{getD, length-take}
 use Rattle.solve.proofs.BlockPlaces.{room-under, values-le}
@@ -32,10 +32,21 @@ place-in-block-requires-3 c κs = search needs
 
 apart8-requires : tie.Need-apart8-requires
 apart8-requires c κs =
-    let a = c .before .before .before .before .before .args in
+    let entry = c .before .before .before .before .before in
+    let a = entry .args in
     let most = values-le (a .h) (a .w) (omega arith) (omega arith) in (
-      omega (arith, c .place-in-block3 .ensures, most, room-under (a .h) (a .w) (a .w + a .t) (omega arith) (omega arith) (omega arith) (omega arith)),
-      omega (arith, c .before .place-in-block2 .ensures, most, room-under (a .h) (a .w) (a .w + a .q) (omega arith) (omega arith) (omega arith) (omega arith)),
+      omega (
+        arith,
+        c .place-in-block3 .ensures,
+        most,
+        room-under (a .h) (a .w) (a .w + a .t) (omega arith) (omega arith) (omega arith) (omega arith),
+      ),
+      omega (
+        arith,
+        c .before .place-in-block2 .ensures,
+        most,
+        room-under (a .h) (a .w) (a .w + a .q) (omega arith) (omega arith) (omega arith) (omega arith),
+      ),
     )
 
 add-apart8 : tie.Need-add-apart8
@@ -46,8 +57,9 @@ apart8-requires-2 c κs = search needs
 
 gather8-requires : tie.Need-gather8-requires
 gather8-requires c κs =
-    let a = c .before .before .before .before .before .before .before .before .args in
-    λ s few. omega (arith, c .before .apart82 .ensures s few, apart-inside (a .q) s (a .t) few (c .before .before .before .before .before .before .before .before .pre .1 .0))
+    let entry = c .before .before .before .before .before .before .before .before in
+    let a = entry .args in
+    λ s few. omega (arith, c .before .apart82 .ensures s few, apart-inside (a .q) s (a .t) few (entry .pre .1 .0))
 
 slice-reshare-prefix-subtract-rising8 : tie.Need-slice-reshare-prefix-subtract-rising8
 slice-reshare-prefix-subtract-rising8 c = search needs
@@ -57,23 +69,27 @@ slice-aggregate-subtract-rising8 c = simp length-take (omega arith)
 
 subtract-rising8-requires : tie.Need-subtract-rising8-requires
 subtract-rising8-requires c κs =
-    let a = c .before .before .before .before .before .before .before .before .before .before .args in
-    let step : c .before .before .before .before .before .before .place-in-block2 .result - c .before .before .before .before .before .before .before .place-in-block .result ≡ a .q * a .w =
-    omega (arith, c .before .before .before .before .before .before .place-in-block2 .ensures, c .before .before .before .before .before .before .before .place-in-block .ensures, place-apart (a .w) (a .w) (a .q) (omega arith))
-    in
-    λ s few. simp length-take (omega (
+    let entry = c .before .before .before .before .before .before .before .before .before .before in
+    let a = entry .args in
+    let first = c .before .before .before .before .before .before .before .place-in-block .ensures in
+    let next = c .before .before .before .before .before .before .place-in-block2 .ensures in
+    let from = c .before .before .before .before .before .place-in-block3 .ensures in
+    λ s few.
+    let inside = apart-inside (a .q) s (a .t) few (entry .pre .1 .0) in
+    simp length-take (omega (
       arith,
-      c .before .before .before .before .apart8 .ensures s few ∙ place-apart8 (a .w) (a .t) (a .q) s _ _ step (c .before .before .before .before .before .place-in-block3 .ensures),
-      apart-inside (a .q) s (a .t) few (c .before .before .before .before .before .before .before .before .before .before .pre .1 .0),
-      room-under (a .h) (a .w) (a .w + a .t + s * a .q) (omega arith) (omega arith) (omega arith) (omega (arith, apart-inside (a .q) s (a .t) few (c .before .before .before .before .before .before .before .before .before .before .pre .1 .0))),
+      c .before .before .before .before .apart8 .ensures s few ∙ place-apart8 (a .w) (a .t) (a .q) s _ _ _ first next from,
+      inside,
+      room-under (a .h) (a .w) (a .w + a .t + s * a .q) (omega arith) (omega arith) (omega arith) (omega (arith, inside)),
     ))
 
 scatter8-requires : tie.Need-scatter8-requires
 scatter8-requires c κs =
-    let a = c .before .before .before .before .before .before .before .before .before .before .before .before .args in
+    let entry = c .before .before .before .before .before .before .before .before .before .before .before .before in
+    let a = entry .args in
     let rows = c .before .before .before .before .before .apart82 .ensures in (
-      λ s few. omega (arith, rows s few, apart-inside (a .q) s (a .t) few (c .before .before .before .before .before .before .before .before .before .before .before .before .pre .1 .0)),
-      λ s s′ few few′ e. apart-same (a .q) s s′ (a .t) (a .t) (c .before .before .before .before .before .before .before .before .before .before .before .before .pre .1 .0) (c .before .before .before .before .before .before .before .before .before .before .before .before .pre .1 .0) (omega (arith, rows s few, rows s′ few′)) .0,
+      λ s few. omega (arith, rows s few, apart-inside (a .q) s (a .t) few (entry .pre .1 .0)),
+      λ s s′ few few′ e. apart-same (a .q) s s′ (a .t) (a .t) (entry .pre .1 .0) (entry .pre .1 .0) (omega (arith, rows s few, rows s′ few′)) .0,
     )
 
 same-length : tie.Need-same-length
@@ -81,13 +97,19 @@ same-length c = search needs
 
 returns : tie.Need-returns
 returns c =
-    let a = c .before .before .before .before .before .before .before .before .before .before .before .before .before .before .before .args in
-    let step : c .before .before .before .before .before .before .before .before .before .before .before .place-in-block2 .result - c .before .before .before .before .before .before .before .before .before .before .before .before .place-in-block .result ≡ a .q * a .w =
-    omega (arith, c .before .before .before .before .before .before .before .before .before .before .before .place-in-block2 .ensures, c .before .before .before .before .before .before .before .before .before .before .before .before .place-in-block .ensures, place-apart (a .w) (a .w) (a .q) (omega arith))
-    in
-    apart8-done (a .w) (a .q) (a .t) (now (a .part)) (now (a .work)) (c .before .before .before .before .before .before .gather8 .result) (c .before .before .before .before .subtract-rising8 .result) _ (λ (s : ℕ). getD (c .before .before .before .before .before .before .before .before .before .apart8 .result) s 0)
-    (λ (s : ℕ). getD (c .before .before .before .before .before .before .before .before .apart82 .result) s 0) (omega arith) (c .before .before .before .before .before .before .before .before .apart82 .ensures) (c .before .before .before .before .before .before .gather8 .ensures)
-    (λ s few. c .before .before .before .before .before .before .before .before .before .apart8 .ensures s few ∙ place-apart8 (a .w) (a .t) (a .q) s _ _ step (c .before .before .before .before .before .before .before .before .before .before .place-in-block3 .ensures)) (c .before .before .before .before .subtract-rising8 .ensures) (c .before .before .scatter8 .ensures)
+    let entry = c .before .before .before .before .before .before .before .before .before .before .before .before .before .before .before in
+    let a = entry .args in
+    let first = c .before .before .before .before .before .before .before .before .before .before .before .before .place-in-block .ensures in
+    let next = c .before .before .before .before .before .before .before .before .before .before .before .place-in-block2 .ensures in
+    let from = c .before .before .before .before .before .before .before .before .before .before .place-in-block3 .ensures in
+    let places = c .before .before .before .before .before .before .before .before .before .apart8 in
+    let rows = c .before .before .before .before .before .before .before .before .apart82 in
+    let gather8 = c .before .before .before .before .before .before .gather8 in
+    let reduced = c .before .before .before .before .subtract-rising8 in
+    apart8-done (a .w) (a .q) (a .t) (now (a .part)) (now (a .work)) (gather8 .result) (reduced .result) _ (λ (s : ℕ). getD (places .result) s 0)
+    (λ (s : ℕ). getD (rows .result) s 0) (omega arith) (rows .ensures) (gather8 .ensures)
+    (λ s few. places .ensures s few ∙ place-apart8 (a .w) (a .t) (a .q) s _ _ _ first next from) (reduced .ensures)
+    (c .before .before .scatter8 .ensures)
 
 pub forward-rows8-spec : {M : Type 1} → statement M
 forward-rows8-spec =
