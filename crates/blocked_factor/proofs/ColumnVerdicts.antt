@@ -14,8 +14,12 @@ use Rattle.calls.specs.Sequences.{tabulate, all}
 use Rattle.calls.specs.Refusals.{success, refusal, firstRefusal, rule11}
 use Rattle.calls.specs.Arithmetic.{minusProducts}
 use Rattle.calls.proofs.Judging.{judged-root}
-use Rattle.blocked_factor.specs.BlockColumns.{rowStart, rowAt, lessPanel, columnRoot, columnUnder, columnQuotient, RowsFinished, ColumnFinished}
+use Rattle.blocked_factor.specs.BlockColumns.{rowStart, rowAt, lessPanel, columnRoot, columnQuotient, RowsFinished, ColumnFinished}
 use Rattle.blocked_factor.proofs.BlockRows.{row-lt, row-within}
+
+-- the rows of column s from s + 1 to h − 1
+abbrev pub columnUnder : ℕ → ℕ → ℕ → List Float → Float → ℕ → List Float
+columnUnder w s0 s m diagonal h = tabulate (h - s - 1) (λ r. columnQuotient w s0 s m diagonal (s + 1 + r))
 
 module _ (c w h s0 s : ℕ) (m : List Float) where
   pub column-pivot-refused :

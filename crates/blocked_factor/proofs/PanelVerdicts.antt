@@ -21,9 +21,10 @@ use Rattle.calls.specs.Triangles.{Triangle}
 use Rattle.calls.specs.Refusals.{success, refusal, accepted, firstRefusal, lowestRefusal, rule10, rule11}
 use Rattle.calls.proofs.Sequences.{tabulate-same, tabulate-append, length-tabulate, getD-tabulate, all-append, all-at, all-of}
 use Rattle.calls.proofs.Judging.{judged-root, lowest-found}
-use Rattle.blocked_factor.specs.BlockColumns.{rowStart, lessPanel, columnUnder, columnRoot, ColumnFinished, lessSolved, quotientSolved, judgeSolved, TopFinished, RowsSolved, columnFinite, LowestRefused}
+use Rattle.blocked_factor.specs.BlockColumns.{rowStart, lessPanel, columnRoot, ColumnFinished, lessSolved, quotientSolved, judgeSolved, TopFinished, RowsSolved, columnFinite, LowestRefused}
 use Rattle.blocked_factor.specs.BlockStages.{factorEntry, judgeColumn, Stage, Judged, PanelFinished}
 use Rattle.blocked_factor.proofs.BlockRows.{row-lt, row-apart}
+use Rattle.blocked_factor.proofs.ColumnVerdicts.{columnUnder}
 use Rattle.blocked_factor.proofs.Solving.{less-same}
 use Rattle.blocked_factor.proofs.Stages.{lowest-run, solved-judged, done}
 

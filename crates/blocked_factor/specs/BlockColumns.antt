@@ -99,10 +99,6 @@ columnRoot w s0 s m = root (lessPanel w s0 s m s)
 abbrev pub columnQuotient : ℕ → ℕ → ℕ → List Float → Float → ℕ → Float
 columnQuotient w s0 s m diagonal r = quotientSolved w s0 m m diagonal r s
 
--- the rows of column s from s + 1 to h − 1
-abbrev pub columnUnder : ℕ → ℕ → ℕ → List Float → Float → ℕ → List Float
-columnUnder w s0 s m diagonal h = tabulate (h - s - 1) (λ r. columnQuotient w s0 s m diagonal (s + 1 + r))
-
 -- Rows from `from` to `to` − 1 of column s are divided by the root, and nothing else changes; they are judged to be finite or not.
 pub record RowsFinished (w from to s0 s : ℕ) (diagonal : Float) (m : List Float) (judgement : Bool) (m′ : List Float) : Type 0 where
   pub kept : length m′ ≡ length m

@@ -1,11 +1,11 @@
 -- `blocked_factor::proofs::column_finite` meets its contract. Assumes nothing.
-use Prim.Native.Nat.{_-_, _≤_}
+use Prim.Native.Nat.{_+_, _-_, _≤_, _<_}
 use native.Mathlib.Nat.{le-refl}
 use native.Mathlib.Omega.{arith}
 use mathlib.Core.Path.{_≡_, ap₂, _∙_}
 use mathlib.Core.Bool.{_&&_}
 use borrow.Author.Needs.{needs}
-use Rattle.blocked_factor.specs.BlockColumns.{columnFinite}
+use Rattle.blocked_factor.specs.BlockColumns.{rowStart, columnFinite}
 use Rattle.blocked_factor.proofs.BlockRows.{row-lt}
 use Rattle.blocked_factor.proofs.Finishing.{column-none, column-next}
 use Rattle.blocked_factor.proofs.column_finite.Statement.{statement}
@@ -25,43 +25,25 @@ loop-holds c =
 place-in-block-requires : tie.Need-place-in-block-requires Inv-loop μ-loop
 place-in-block-requires c κs = search needs
 
+-- the entry lies before row `to`
+inside : (c : tie.In-loop Inv-loop μ-loop)
+    → let a = c .before .before .before .args in
+    rowStart (a .width) (c .before .loop .r) + a .s < rowStart (a .width) (a .to)
+inside c =
+    let entry = c .before .before .before in
+    let l = c .before .loop in
+    row-lt (entry .args .width) (l .r) (entry .args .to) (entry .args .s) (c .loop-test .taken) (omega (arith, entry .pre, l .inv .0))
+
 add-p : tie.Need-add-p Inv-loop μ-loop
-add-p c =
-    let entry = c .before .before .before .before in
-    let a = entry .args in
-    omega (
-      arith,
-      entry .pre,
-      entry .good,
-      c .place-in-block .ensures,
-      row-lt (a .width) (c .before .before .loop .r) (a .to) (a .s) (c .before .loop-test .taken)
-          (omega (arith, entry .pre, c .before .before .loop .inv .0)),
-    )
+add-p c = omega (arith, c .before .before .before .before .pre, c .before .before .before .before .good, c .place-in-block .ensures, inside (c .before))
 
 mul-is-finite : tie.Need-mul-is-finite Inv-loop μ-loop
 mul-is-finite c =
-    let entry = c .before .before .before .before in
-    let a = entry .args in
-    omega (
-      arith,
-      entry .pre,
-      entry .good,
-      c .place-in-block .ensures,
-      row-lt (a .width) (c .before .before .loop .r) (a .to) (a .s) (c .before .loop-test .taken)
-          (omega (arith, entry .pre, c .before .before .loop .inv .0)),
-    )
+    omega (arith, c .before .before .before .before .pre, c .before .before .before .before .good, c .place-in-block .ensures, inside (c .before))
 
 shared-slice-read-is-finite : tie.Need-shared-slice-read-is-finite Inv-loop μ-loop
 shared-slice-read-is-finite c =
-    let entry = c .before .before .before .before .before in
-    let a = entry .args in
-    omega (
-      arith,
-      entry .pre,
-      c .before .place-in-block .ensures,
-      row-lt (a .width) (c .before .before .before .loop .r) (a .to) (a .s) (c .before .before .loop-test .taken)
-          (omega (arith, entry .pre, c .before .before .before .loop .inv .0)),
-    )
+    omega (arith, c .before .before .before .before .before .pre, c .before .place-in-block .ensures, inside (c .before .before))
 
 is-finite-requires : tie.Need-is-finite-requires Inv-loop μ-loop
 is-finite-requires c κs = search needs

@@ -1,11 +1,11 @@
 -- `blocked_factor::proofs::finish_columns8` meets its contract. Assumes nothing.
-use Prim.Native.Nat.{_+_, _-_, _≤_}
+use Prim.Native.Nat.{_+_, _-_, _≤_, _<_}
 use native.Mathlib.Nat.{le-refl}
 use native.Mathlib.Omega.{arith}
 use mathlib.Core.Path.{_≡_}
 use borrow.Author.Needs.{needs}
-use Rattle.blocked_factor.specs.BlockColumns.{RowsSolved}
-use Rattle.blocked_factor.proofs.BlockRows.{row-within}
+use Rattle.blocked_factor.specs.BlockColumns.{rowStart, RowsSolved}
+use Rattle.blocked_factor.proofs.BlockRows.{row-lt}
 use Rattle.blocked_factor.proofs.Solving.{solved-none, solved-column}
 use Rattle.blocked_factor.proofs.finish_columns8.Statement.{statement}
 use Rattle.blocked_factor.proofs.finish_columns8.Tie as tie
@@ -25,44 +25,29 @@ loop-holds c = (le-refl _, omega (arith, c .before .before .pre), solved-none _ 
 place-in-block-requires : tie.Need-place-in-block-requires Inv-loop μ-loop
 place-in-block-requires c κs = search needs
 
+-- in a turn the diagonal lies before the eight rows' end
+inside : (c : tie.In-loop Inv-loop μ-loop)
+    → let a = c .before .before .before .before .args in
+    rowStart (a .width) (c .before .loop .s) + c .before .loop .s < rowStart (a .width) (a .r + 8)
+inside c =
+    let entry = c .before .before .before .before in
+    let s = c .before .loop .s in
+    row-lt (entry .args .width) s (entry .args .r + 8) s (omega (arith, entry .pre, c .loop-test .taken)) (omega (arith, entry .pre, c .loop-test .taken))
+
 add-root : tie.Need-add-root Inv-loop μ-loop
 add-root c =
     let entry = c .before .before .before .before .before in
-    let a = entry .args in
-    omega (
-      arith,
-      entry .pre,
-      entry .good,
-      c .before .loop-test .taken,
-      c .place-in-block .ensures,
-      row-within (a .width) (c .before .before .loop .s) (a .r + 8) (omega (arith, entry .pre, c .before .loop-test .taken)),
-    )
+    omega (arith, entry .pre, entry .good, c .place-in-block .ensures, inside (c .before))
 
 mul-root : tie.Need-mul-root Inv-loop μ-loop
 mul-root c =
     let entry = c .before .before .before .before .before in
-    let a = entry .args in
-    omega (
-      arith,
-      entry .pre,
-      entry .good,
-      c .before .loop-test .taken,
-      c .place-in-block .ensures,
-      row-within (a .width) (c .before .before .loop .s) (a .r + 8) (omega (arith, entry .pre, c .before .loop-test .taken)),
-    )
+    omega (arith, entry .pre, entry .good, c .place-in-block .ensures, inside (c .before))
 
 slice-read-root : tie.Need-slice-read-root Inv-loop μ-loop
 slice-read-root c =
     let entry = c .before .before .before .before .before .before in
-    let a = entry .args in
-    omega (
-      arith,
-      entry .pre,
-      c .before .before .before .loop .inv .2 .kept,
-      c .before .before .loop-test .taken,
-      c .before .place-in-block .ensures,
-      row-within (a .width) (c .before .before .before .loop .s) (a .r + 8) (omega (arith, entry .pre, c .before .before .loop-test .taken)),
-    )
+    omega (arith, entry .pre, c .before .before .before .loop .inv .2 .kept, c .before .place-in-block .ensures, inside (c .before .before))
 
 finish-rows8-requires : tie.Need-finish-rows8-requires Inv-loop μ-loop
 finish-rows8-requires c κs =
