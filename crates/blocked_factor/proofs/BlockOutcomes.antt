@@ -9,17 +9,17 @@ use lib.Seq.{length-take-le}
 use lib.Ieee.{Float}
 use Rattle.binary64.specs.Kinds.{zero64}
 use Rattle.shape.specs.Places.{blockWork, blockedPlace}
-use Rattle.calls.specs.declared.CallResult.{CallResult}
+use Rattle.calls.specs.declared.Verdict.{Verdict}
 use Rattle.calls.specs.declared.Layout.the-variants.{Blocked}
 use Rattle.calls.specs.Triangles.{Triangle, height, placeOf, load, store}
 use Rattle.calls.specs.Arithmetic.{cholesky}
 use Rattle.calls.specs.Refusals.{accepted}
-use Rattle.calls.specs.Calls.{DoneAs, clear, factorChecks, factored, factorize, finished}
+use Rattle.calls.specs.Calls.{DoneAs, resultOf, clear, factorChecks, factored, factorize, finished}
 use Rattle.calls.proofs.CheckLaws.{FactorAccepted, factor-passed}
 use Rattle.blocked_factor.specs.BlockSteps.{Sized, BlocksDone}
 use Rattle.blocked_factor.proofs.BlockLoop.{factored-matrix}
 
-module _ (n b : ℕ) (m w : List Float) (checks : CallResult) (e : checks ≡ factorChecks Blocked n b m (length w)) where
+module _ (n b : ℕ) (m w : List Float) (checks : Verdict) (e : checks ≡ factorChecks Blocked n b m (length w)) where
   module _ (passed : accepted checks ≡ true) where
     checks-accepted : FactorAccepted Blocked n b m (length w)
     checks-accepted = factor-passed Blocked n b m w checks e passed
@@ -40,15 +40,15 @@ module _ (n b : ℕ) (m w : List Float) (checks : CallResult) (e : checks ≡ fa
           }
 
       pub blocks-done :
-          (answer : CallResult) (m′ : List Float) → BlocksDone n b m answer m′ →
-          DoneAs (factorize Blocked n b m w) answer m′ (replicate (blockWork n b) zero64 ++ drop needed w)
+          (answer : Verdict) (m′ : List Float) → BlocksDone n b m answer m′ →
+          DoneAs (factorize Blocked n b m w) (resultOf answer) m′ (replicate (blockWork n b) zero64 ++ drop needed w)
       unfolding factorize factored placeOf clear
       blocks-done answer m′ done =
           let a : Triangle = load (blockedPlace n b) (height n) n m in
           let both = factored-matrix n b m m′ answer (checks-accepted .sizes .blockLow tt) (checks-accepted .sizes .matrix) done in
           rw (ap accepted (sym e) ∙ passed)
           (record {
-            result = both .0;
+            result = ap resultOf (both .0);
             matrix = both .1 ∙ ap (λ v. store (blockedPlace n b) (cholesky (height n) a (finished Blocked n b v)) m) (both .0);
             work = ap (λ k. replicate (blockWork n b) zero64 ++ drop k w) size;
           })

@@ -1,74 +1,37 @@
 -- From the part of the memory that begins at a block column's start to the whole memory, and from places to entries. Assumes nothing.
 use Prim.Native.Nat.{ℕ, zero, suc, _+_, _-_, _*_, _≤_, _<_, min}
-use native.Mathlib.Nat.{add-zero, mul-le-mul, mul-le-mul-right}
+use native.Mathlib.Nat.{mul-le-mul, mul-le-mul-right}
 use native.Mathlib.Omega.{arith}
 use native.Mathlib.Decide.{decLt}
 use mathlib.Core.Path.{_≡_, sym, ap, _∙_, subst}
 use mathlib.Core.Bool.{true, false}
-use mathlib.Core.List.{List, [], _++_, append-nil}
+use mathlib.Core.List.{List}
 use lib.Dec.{T}
-use lib.ListN.{length, getD, take, drop, length-drop, length-append, List·getD-append}
-use lib.Seq.{take-all, getD-drop, getD-take, getD-append-add, length-take-le, drop-length, ext-getD}
+use lib.ListN.{length, getD, take, drop}
+use lib.Seq.{ext-getD}
 use lib.Ieee.{Float, nan}
-use Rattle.shape.specs.Places.{triangle, blockOf, blockStart, width, placeInBlock, blockedPlace, blockWork}
+use Rattle.shape.specs.Places.{blockOf, blockStart, width, placeInBlock, blockedPlace, blockWork}
 use Rattle.shape.specs.Layouts.{Entry}
 use Rattle.shape.proofs.Rows.{place-in-block-row, row-start-under}
-use Rattle.shape.proofs.Columns.{triangle-columns, triangle-exact}
+use Rattle.shape.proofs.Columns.{triangle-exact}
 use Rattle.shape.proofs.Blocks.{block-of-le, block-of-lt, block-of-block, block-of-next, width-le, width-le-block, width-full, width-last, blocked-place-at, blocked-place-block}
 use Rattle.shape.proofs.Bounds.{block-start-mono}
-use Rattle.calls.specs.declared.CallResult.{CallResult}
+use Rattle.calls.specs.declared.Verdict.{Verdict}
 use Rattle.calls.specs.Triangles.{Triangle}
 use Rattle.calls.specs.Arithmetic.{minusProducts}
-use Rattle.calls.specs.Refusals.{success, accepted, lowestRefusal}
+use Rattle.calls.specs.Refusals.{accepted}
 use Rattle.calls.proofs.Columns.{products-same}
-use Rattle.kernels.specs.Kernels.{Filled}
+use Rattle.kernels.specs.Kernels.{Filled, Replaced, rowAt}
+use Rattle.kernels.proofs.Parts.{getD-part}
 use Rattle.blocked_factor.specs.BlockColumns.{rowStart, PanelUpdated}
-use Rattle.blocked_factor.specs.BlockStages.{factorEntry, lessProducts, judgeColumn, Judged, ColumnsFactored}
-use Rattle.blocked_factor.specs.BlockSteps.{BlockAt, rowOf, FactoredTo, BlockFactored, BlockDone, Saved}
+use Rattle.blocked_factor.specs.BlockStages.{factorEntry, lessProducts, Stage, allRows, BlockColumnFactored}
+use Rattle.blocked_factor.specs.BlockSteps.{BlockAt, rowOf, FactoredTo, BlockFactored, BlockDone}
 use Rattle.blocked_factor.proofs.BlockRows.{row-lt}
-use Rattle.blocked_factor.proofs.EarlierBlocks.{block-end, block-before}
-
--- ---- a part of a list from a place on
-
-part-get : (m : List Float) (at p : ℕ) → getD (take (length m - at) (drop at m)) p nan ≡ getD m (at + p) nan
-part-get m at p =
-    ap (λ l. getD l p nan) (take-all (length m - at) (drop at m) (omega (arith, length-drop at m))) ∙ getD-drop at m p nan
-
-pub part-length : (m : List Float) (at : ℕ) → length (take (length m - at) (drop at m)) ≡ length m - at
-part-length m at = ap length (take-all (length m - at) (drop at m) (omega (arith, length-drop at m))) ∙ length-drop at m
-
-pub whole-before : (m q : List Float) (at p : ℕ) → at ≤ length m → p < at → getD (take at m ++ q) p nan ≡ getD m p nan
-whole-before m q at p room low =
-    List·getD-append (take at m) q nan p (omega (arith, length-take-le at m room)) ∙ getD-take at m p nan low
-
-whole-after : (m q : List Float) (at p : ℕ) → at ≤ length m → getD (take at m ++ q) (at + p) nan ≡ getD q p nan
-whole-after m q at p room = rw (length-take-le at m room) at (getD-append-add (take at m) q p nan)
-
--- what is put back where the part is all from a place on
-pub whole-put :
-    (m q : List Float) (at : ℕ) → at ≤ length m → take at m ++ (q ++ drop (length m - at) (drop at m)) ≡ take at m ++ q
-whole-put m q at room =
-    let rest : drop (length m - at) (drop at m) ≡ [] =
-    ap (λ k. drop k (drop at m)) (sym (length-drop at m)) ∙ drop-length (drop at m)
-    in
-    rw rest (ap (λ l. take at m ++ l) (append-nil q))
+use Rattle.blocked_factor.proofs.EarlierBlocks.{block-end, block-before, inside-le, block-room, next-le, earlier-end}
 
 -- ---- places
 
 module _ {n b c len : ℕ} (here : BlockAt n b c len) where
-  pub inside-le : c + width n b c ≤ n
-  inside-le = omega (arith, width-le n b c, here .inside)
-
-  pub block-room : blockStart n c + rowStart (width n b c) (n - c) ≤ len
-  block-room =
-      omega (
-        arith,
-        block-end n c (width n b c) inside-le,
-        block-start-mono n (c + width n b c) n inside-le (omega arith),
-        triangle-columns n,
-        here .size,
-      )
-
   pub place-here : (r s : ℕ) → s < width n b c → blockedPlace n b (c + r) (c + s) ≡ blockStart n c + rowStart (width n b c) r + s
   place-here r s narrow =
       blocked-place-at n b c r s (here .first) (omega (arith, width-le-block n b c))
@@ -80,24 +43,23 @@ module _ {n b c len : ℕ} (here : BlockAt n b c len) where
       let k : ℕ = blockOf b j in
       let le : k ≤ j = block-of-le b j in
       let up : j < k + b = block-of-lt b j (here .block) in
-      let next : k + b ≤ c = block-before b k c (block-of-block b j (here .block)) (here .first) (omega arith) in
+      let first : blockOf b k ≡ k = block-of-block b j (here .block) in
+      let next : k + b ≤ c = next-le here k first (omega arith) in
       let full : width n b k ≡ b = width-full n b k (omega (arith, here .inside)) in
       let place : blockedPlace n b i j ≡ blockStart n k + placeInBlock b (i - k) (j - k) = rw full at (blocked-place-block n b i j) in
       omega (
         arith,
-        place,
         place-in-block-row b (i - k) (j - k),
         place-in-block-row b (i - k) 0,
         row-lt b (i - k) (n - k) (j - k) (omega (arith, e .lower, e .inside)) (omega (arith, e .lower)),
-        block-end n k b (omega (arith, here .inside)),
-        block-start-mono n (k + b) c next (omega (arith, here .inside)),
+        earlier-end here k first (omega arith),
       )
 
   -- and those of later columns past it
-  place-after : (i j : ℕ) → Entry n i j → c + width n b c ≤ j → blockStart n (c + width n b c) ≤ blockedPlace n b i j
+  place-after : (i j : ℕ) → Entry n i j → c + width n b c ≤ j → blockStart n c + rowStart (width n b c) (n - c) ≤ blockedPlace n b i j
   place-after i j e high = go (decLt (n - c) b)
     where
-      go : Dec (n - c < b) → blockStart n (c + width n b c) ≤ blockedPlace n b i j
+      go : Dec (n - c < b) → blockStart n c + rowStart (width n b c) (n - c) ≤ blockedPlace n b i j
       go (yes last) = absurd (omega (arith, width-last n b c (omega arith), e .lower, e .inside, here .inside))
       go (no full) =
           let w : width n b c ≡ b = width-full n b c (omega arith) in
@@ -106,7 +68,7 @@ module _ {n b c len : ℕ} (here : BlockAt n b c len) where
           let up : j < k + b = block-of-lt b j (here .block) in
           let later : c + b ≤ k = go′ (decLt k (c + b)) w le up in
           let bound : blockStart n (c + b) ≤ blockStart n k = block-start-mono n (c + b) k later (omega (arith, e .lower, e .inside)) in
-          rw w (omega (arith, bound, blocked-place-block n b i j))
+          rw w (omega (arith, bound, blocked-place-block n b i j, block-end n c b (omega (arith, inside-le here))))
         where
           go′ : Dec (blockOf b j < c + b) → width n b c ≡ b → blockOf b j ≤ j → j < blockOf b j + b → c + b ≤ blockOf b j
           go′ (no p) w le up = omega arith
@@ -119,169 +81,140 @@ module _ {n b c len : ℕ} (here : BlockAt n b c len) where
 -- ---- the block column
 
 module _
-    {n b c : ℕ} (m m₁ q : List Float) (answer : CallResult) (here : BlockAt n b c (length m))
+    {n b c : ℕ} {m m₁ m₂ q : List Float} {answer : Verdict} (here : BlockAt n b c (length m))
     (update : PanelUpdated (blockStart n c) (width n b c) (n - c) 0 (width n b c) (rowOf n b c m) c m m₁)
-    (factored : ColumnsFactored c (width n b c) (n - c) 0 (width n b c) (take (length m₁ - blockStart n c) (drop (blockStart n c) m₁)) answer q) where
+    (factored : BlockColumnFactored c (width n b c) (n - c) (take (length m₁ - blockStart n c) (drop (blockStart n c) m₁)) answer q)
+    (lent : Replaced nan (blockStart n c) (length m₁ - blockStart n c) m₁ q m₂) where
   abbrev start : ℕ
   start = blockStart n c
+
+  abbrev w : ℕ
+  w = width n b c
 
   abbrev part : List Float
   part = take (length m₁ - start) (drop start m₁)
 
-  start-room : start ≤ length m₁
-  start-room = omega (arith, block-room here, update .kept)
+  inside : (r s : ℕ) → s ≤ r → c + r < n → s < w → rowStart w r + s < length m₁ - start
+  inside r s lower high narrow = omega (arith, row-lt w r (n - c) s (omega arith) (omega arith), block-room here, update .kept)
 
-  low-kept : (p : ℕ) → p < start → getD (take start m₁ ++ q) p nan ≡ getD m p nan
-  low-kept p low = whole-before m₁ q start p start-room low ∙ update .outside p (λ r s e z. omega arith)
+  low-kept : (p : ℕ) → p < start → getD m₂ p nan ≡ getD m p nan
+  low-kept p low = lent .before p low ∙ update .outside p (λ r s e z. omega arith)
 
-  high-kept : (p : ℕ) → blockStart n (c + width n b c) ≤ p → getD (take start m₁ ++ q) p nan ≡ getD m p nan
+  high-kept : (p : ℕ) → start + rowStart w (n - c) ≤ p → getD m₂ p nan ≡ getD m p nan
   high-kept p high =
-      let end : blockStart n (c + width n b c) ≡ start + rowStart (width n b c) (n - c) = block-end n c (width n b c) (inside-le here) in
-      let place : start + (p - start) ≡ p = omega arith in
-      let far : getD (take start m₁ ++ q) (start + (p - start)) nan ≡ getD m₁ (start + (p - start)) nan =
-      whole-after m₁ q start (p - start) start-room ∙ factored .beyond (p - start) (omega arith) ∙ part-get m₁ start (p - start)
-      in
-      (rw place at far)
-      ∙ update .outside p
-      (λ r s e z.
-      omega (arith, row-lt (width n b c) r (n - c) s (e .row) (omega (arith, e .lower, e .right))))
+      at (decLt p (length m₁)) ∙ update .outside p (λ r s e z. omega (arith, row-lt w r (n - c) s (e .row) (omega (arith, e .lower, e .right))))
+    where
+      at : Dec (p < length m₁) → getD m₂ p nan ≡ getD m₁ p nan
+      at (no far) = lent .after p (omega arith)
+      at (yes near) =
+          let place : start + (p - start) ≡ p = omega arith in
+          rw place at
+          (lent .inside (p - start) (omega arith)
+          ∙ factored .beyond (p - start) (omega arith)
+          ∙ getD-part nan start (length m₁ - start) m₁ (p - start) (omega arith))
 
-  module _ (a : Triangle) (known : FactoredTo n b a c m) (first : lowestRefusal (judgeColumn n a) c ≡ success) where
-    entered :
-        (r s : ℕ) → s ≤ r → c + r < n → s < width n b c → getD part (rowStart (width n b c) r + s) nan ≡ lessProducts n a c (c + r) (c + s)
+  module _ (a : Triangle) (known : FactoredTo n b a c m) where
+    entered : (r s : ℕ) → s ≤ r → c + r < n → s < w → getD part (rowStart w r + s) nan ≡ lessProducts n a c (c + r) (c + s)
     entered r s lower high narrow =
-        let assoc : start + (rowStart (width n b c) r + s) ≡ start + rowStart (width n b c) r + s = omega arith in
-        part-get m₁ start (rowStart (width n b c) r + s)
+        let assoc : start + (rowStart w r + s) ≡ start + rowStart w r + s = omega arith in
+        getD-part nan start (length m₁ - start) m₁ (rowStart w r + s) (inside r s lower high narrow)
         ∙ ap (λ p. getD m₁ p nan) assoc
         ∙ update .inside r s (record { lower = lower; row = omega arith; left = omega arith; right = omega arith })
-        ∙ products-same (rowOf n b c m r) (λ k. factorEntry n a (c + r) k) (rowOf n b c m s) (λ k. factorEntry n a (c + s) k) c
-        (getD m (start + rowStart (width n b c) r + s) nan)
+        ∙ products-same (rowOf n b c m r) (factorEntry n a (c + r)) (rowOf n b c m s) (factorEntry n a (c + s)) c (getD m (start + rowStart w r + s) nan)
         (λ k few. known .finished (c + r) k (record { lower = omega arith; inside = high }) few)
         (λ k few. known .finished (c + s) k (record { lower = omega arith; inside = omega arith }) few)
-        ∙ ap (minusProducts (λ k. factorEntry n a (c + r) k) (λ k. factorEntry n a (c + s) k) c)
+        ∙ ap (minusProducts (factorEntry n a (c + r)) (factorEntry n a (c + s)) c)
         (ap (λ p. getD m p nan) (sym (place-here here r s narrow))
         ∙ known .entries (c + r) (c + s) (record { lower = omega arith; inside = high }) (omega arith))
 
-    outcome : Judged n a c (width n b c) (width n b c) (width n b c) (width n b c) answer q
-    outcome =
-        let order : c + (n - c) ≡ n = omega (arith, here .inside) in
-        factored .judged n a order
-        (record {
+    order : c + (n - c) ≡ n
+    order = omega (arith, here .inside)
+
+    stage : Stage n a c w 0 0 (allRows 0) part
+    stage =
+        record {
           finished = λ r s lower high narrow before. absurd (omega arith);
           started = λ r s lower high narrow low up. absurd (omega arith);
           entered = λ r s lower high narrow low. entered r s lower high narrow;
-        })
-        (rw add-zero first)
+        }
 
-    new-entry :
-        (i j : ℕ) → Entry n i j → c ≤ j → j < c + width n b c → T (accepted answer) →
-        getD (take start m₁ ++ q) (blockedPlace n b i j) nan ≡ factorEntry n a i j
-    new-entry i j e low high passed =
-        let row : c + (i - c) ≡ i = omega (arith, e .lower) in
-        let column : c + (j - c) ≡ j = omega arith in
-        let assoc : start + rowStart (width n b c) (i - c) + (j - c) ≡ start + (rowStart (width n b c) (i - c) + (j - c)) = omega arith in
-        let found : getD (take start m₁ ++ q) (blockedPlace n b (c + (i - c)) (c + (j - c))) nan ≡ factorEntry n a (c + (i - c)) (c + (j - c)) =
-        ap (λ p. getD (take start m₁ ++ q) p nan) (place-here here (i - c) (j - c) (omega arith) ∙ assoc)
-        ∙ whole-after m₁ q start (rowStart (width n b c) (i - c) + (j - c)) start-room
-        ∙ outcome .stage passed .finished (i - c) (j - c) (omega (arith, e .lower)) (omega (arith, e .lower, e .inside)) (omega arith)
-        (omega arith)
-        in
-        rw (row, column) at found
+    new-entry : (r s : ℕ) → s ≤ r → c + r < n → s < w → getD m₂ (blockedPlace n b (c + r) (c + s)) nan ≡ factorEntry n a (c + r) (c + s)
+    new-entry r s lower high narrow =
+        let assoc : start + rowStart w r + s ≡ start + (rowStart w r + s) = omega arith in
+        ap (λ p. getD m₂ p nan) (place-here here r s narrow ∙ assoc)
+        ∙ lent .inside (rowStart w r + s) (inside r s lower high narrow)
+        ∙ factored .stage n a order stage .finished r s lower high narrow narrow
 
-    block-finished : T (accepted answer) → FactoredTo n b a (c + width n b c) (take start m₁ ++ q)
-    block-finished passed =
+    block-finished : FactoredTo n b a (c + w) m₂
+    block-finished =
         record {
           finished = λ i j e high.
               elim (decLt j c) [
                 | yes p ↦ low-kept (blockedPlace n b i j) (place-before here i j e p) ∙ known .finished i j e p
-                | no p ↦ new-entry i j e (omega arith) high passed
+                | no p ↦
+                    let row : c + (i - c) ≡ i = omega (arith, e .lower) in
+                    let column : c + (j - c) ≡ j = omega arith in
+                    rw (row, column) at (new-entry (i - c) (j - c) (omega (arith, e .lower)) (omega (arith, e .inside)) (omega arith))
               ];
           entries = λ i j e high.
               high-kept (blockedPlace n b i j) (place-after here i j e high) ∙ known .entries i j e (omega arith);
         }
 
-  pub block-factored : BlockFactored n b c m answer (take start m₁ ++ q)
+  pub block-factored : BlockFactored n b c m answer m₂
   block-factored =
       record {
-        kept =
-            length-append (take start m₁) q
-            ∙ omega (arith, length-take-le start m₁ start-room, factored .kept, length-drop start m₁, update .kept, part-length m₁ start, start-room);
+        kept = lent .size ∙ update .kept;
         before = low-kept;
         after = high-kept;
-        judged =
-            record {
-              verdict = λ a known first. outcome a known first .verdict;
-              finished = λ a known first passed. block-finished a known first passed;
-            };
+        finished = block-finished;
+        judged = λ a known first. factored .verdict n a (order a known) (stage a known) first;
       }
 
 -- ---- entry values kept and put back
 
--- how many values the rows of a block column have
-rows-size : (w h : ℕ) → w ≤ h → rowStart w h ≡ triangle w + (h - w) * w
-rows-size w h tall = omega (arith, place-in-block-row w h 0, row-start-under w h tall)
-
-pub restored :
-    {n b c : ℕ} (m m₁ m₂ work : List Float) (answer : CallResult) (here : BlockAt n b c (length m)) → BlockFactored n b c m answer m₁ →
-    ((k : ℕ) → k < blockStart n (c + width n b c) - blockStart n c → getD work k nan ≡ getD m (blockStart n c + k) nan) →
-    Filled nan (blockStart n c) (blockStart n (c + width n b c) - blockStart n c) (λ k. getD work k nan) m₁ m₂ → m₂ ≡ m
-restored {n} {b} {c} m m₁ m₂ work answer here factored saved filled =
-    ext-getD nan m₂ m (filled .size ∙ factored .kept) (λ p room. at p (decLt p (blockStart n c)) (decLt p (blockStart n c + (blockStart n (c + width n b c) - blockStart n c))))
-  where
-    ends : blockStart n c + (blockStart n (c + width n b c) - blockStart n c) ≡ blockStart n (c + width n b c)
-    ends = omega (arith, block-end n c (width n b c) (inside-le here))
-
-    at : (p : ℕ) → Dec (p < blockStart n c) → Dec (p < blockStart n c + (blockStart n (c + width n b c) - blockStart n c)) → getD m₂ p nan ≡ getD m p nan
-    at p (yes low) d = filled .before p low ∙ factored .before p low
-    at p (no low) (no high) = filled .after p (omega arith) ∙ factored .after p (omega (arith, ends))
-    at p (no low) (yes inside) =
-        let place : blockStart n c + (p - blockStart n c) ≡ p = omega arith in
-        let value : getD m₂ (blockStart n c + (p - blockStart n c)) nan ≡ getD m (blockStart n c + (p - blockStart n c)) nan =
-        filled .inside (p - blockStart n c) (omega arith) ∙ saved (p - blockStart n c) (omega arith)
-        in
-        rw place at value
-
-pub size-le : {n b c len : ℕ} (here : BlockAt n b c len) → blockStart n (c + width n b c) - blockStart n c ≤ blockWork n b
+pub size-le : {n b c len : ℕ} (here : BlockAt n b c len) → rowStart (width n b c) (n - c) ≤ blockWork n b
 unfolding blockWork
 size-le {n} {b} {c} {len} here =
-    let w-le : width n b c ≤ min n b = omega (arith, width-le n b c, width-le-block n b c) in
-    let total : (width n b c + (n - c - width n b c)) * width n b c ≤ n * min n b = mul-le-mul (omega (arith, width-le n b c)) w-le in
-    omega (
-      arith,
-      total,
-      block-end n c (width n b c) (inside-le here),
-      rows-size (width n b c) (n - c) (width-le n b c),
-      triangle-exact (width n b c),
-      square-ge (width n b c),
-    )
+    let w : ℕ = width n b c in
+    let tall : w ≤ n - c = width-le n b c in
+    let narrow : w ≤ min n b = omega (arith, width-le-block n b c) in
+    let total : (w + (n - c - w)) * w ≤ n * min n b = mul-le-mul (omega arith) narrow in
+    omega (arith, total, place-in-block-row w (n - c) 0, row-start-under w (n - c) tall, triangle-exact w, square-ge w)
   where
     square-ge : (w : ℕ) → w ≤ w * w
     square-ge zero = omega arith
     square-ge (suc w) = let one : 1 ≤ suc w = omega arith in omega (arith, mul-le-mul-right (suc w) one)
 
 module _
-    {n b c : ℕ} (m m₁ : List Float) (answer : CallResult) (here : BlockAt n b c (length m)) (factored : BlockFactored n b c m answer m₁) where
+    {n b c : ℕ} {m m₁ : List Float} {answer : Verdict} (factored : BlockFactored n b c m answer m₁) where
   pub done-accepted : accepted answer ≡ true → BlockDone n b c m answer m₁
   done-accepted passed =
       record {
         kept = factored .kept;
         restored = λ refused. absurd (subst (λ x. T x) (sym passed ∙ refused) tt);
+        finished = λ t. factored .finished;
         judged = factored .judged;
       }
 
+  -- the entry values go to the work memory, stay there, and come back
   pub done-refused :
-      (m₂ work work′ : List Float) (start size : ℕ) → start ≡ blockStart n c → size ≡ blockStart n (c + width n b c) - blockStart n c →
-      accepted answer ≡ false → Saved start size m work → ((p : ℕ) → p < size → getD work′ p nan ≡ getD work p nan) →
-      Filled nan start size (λ k. getD work′ k nan) m₁ m₂ → BlockDone n b c m answer m₂
-  done-refused m₂ work work′ start size es ez refused saved same filled =
+      {m₂ work₀ work work′ : List Float} {spare : ℕ → Float} {start size rest : ℕ} → start ≡ blockStart n c → size ≡ rowStart (width n b c) (n - c) →
+      accepted answer ≡ false → Filled nan 0 size (rowAt m start) work₀ work → Filled nan size rest spare work work′ →
+      Filled nan start size (rowAt work′ 0) m₁ m₂ → BlockDone n b c m answer m₂
+  done-refused {m₂} {start = start} {size = size} es ez refused saved lent filled =
       record {
         kept = filled .size ∙ factored .kept;
-        restored = λ again.
-            restored m m₁ m₂ work′ answer here factored
-            (λ k few. same k (omega arith) ∙ saved .value k (omega arith) ∙ ap (λ p. getD m (p + k) nan) es) (rw (es, ez) at filled);
-        judged =
-            record {
-              verdict = factored .judged .verdict;
-              finished = λ a known first passed. absurd (subst (λ x. T x) refused passed);
-            };
+        restored = λ again. ext-getD nan m₂ m (filled .size ∙ factored .kept) (λ p room. at p (decLt p start) (decLt p (start + size)));
+        finished = λ t. absurd (subst (λ x. T x) (sym t ∙ refused) tt);
+        judged = factored .judged;
       }
+    where
+      at : (p : ℕ) → Dec (p < start) → Dec (p < start + size) → getD m₂ p nan ≡ getD m p nan
+      at p (yes low) d = filled .before p low ∙ factored .before p (omega arith)
+      at p (no low) (no high) = filled .after p (omega arith) ∙ factored .after p (omega arith)
+      at p (no low) (yes inside) =
+          let place : start + (p - start) ≡ p = omega arith in
+          let value : getD m₂ (start + (p - start)) nan ≡ getD m (start + (p - start)) nan =
+          filled .inside (p - start) (omega arith) ∙ lent .before (0 + (p - start)) (omega arith) ∙ saved .inside (p - start) (omega arith)
+          in
+          rw place at value

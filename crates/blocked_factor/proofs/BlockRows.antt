@@ -19,9 +19,6 @@ module _ (w : ℕ) where
   pub row-mono : (r e : ℕ) → r ≤ e → rowStart w r ≤ rowStart w e
   row-mono r e h = omega (arith, row-starts r, row-starts e, starts-mono (rowLength w) r e h)
 
-  pub row-within : (r e : ℕ) → r < e → rowStart w r + rowLength w r ≤ rowStart w e
-  row-within r e h = omega (arith, row-next r, row-mono (r + 1) e (omega arith))
-
   pub row-lt : (r e s : ℕ) → r < e → s < rowLength w r → rowStart w r + s < rowStart w e
   row-lt r e s h inside = omega (arith, row-starts r, row-starts e, starts-lt (rowLength w) r e s h inside)
 

@@ -5,9 +5,9 @@ use native.Mathlib.Decide.{decLt}
 use mathlib.Core.Path.{_≡_, refl, sym, ap, _∙_}
 use mathlib.Core.Logic.{inl}
 use mathlib.Core.List.{List}
-use lib.ListN.{length, getD}
+use lib.ListN.{getD}
 use lib.Ieee.{Float, nan}
-use Rattle.shape.specs.Places.{triangle, blockOf, blockStart, width, placeInBlock, blockedPlace}
+use Rattle.shape.specs.Places.{blockOf, blockStart, width, placeInBlock, blockedPlace}
 use Rattle.shape.proofs.Columns.{block-start-split, triangle-columns}
 use Rattle.shape.proofs.Rows.{block-start-rows, place-in-block-row}
 use Rattle.shape.proofs.Blocks.{block-of-inside, width-le, width-full, blocked-place-at}
@@ -35,28 +35,41 @@ block-before b k c first first′ h = go (decLt c (k + b))
         let same : blockOf b c ≡ k = rw place at (block-of-inside b k (c - k) first (omega arith)) in
         absurd (omega arith)
 
+module _ {n b c len : ℕ} (here : BlockAt n b c len) where
+  pub inside-le : c + width n b c ≤ n
+  inside-le = omega (arith, width-le n b c, here .inside)
+
+  pub block-room : blockStart n c + rowStart (width n b c) (n - c) ≤ len
+  block-room =
+      omega (
+        arith,
+        block-end n c (width n b c) inside-le,
+        block-start-mono n (c + width n b c) n inside-le (omega arith),
+        triangle-columns n,
+        here .size,
+      )
+
 module _ {n b c len : ℕ} (here : BlockAt n b c len) (k : ℕ) (first : blockOf b k ≡ k) (before : k < c) where
   pub next-le : k + b ≤ c
   next-le = block-before b k c first (here .first) before
 
+  pub earlier-end : blockStart n k + rowStart b (n - k) ≤ blockStart n c
+  earlier-end =
+      omega (arith, block-end n k b (omega (arith, next-le, here .inside)), block-start-mono n (k + b) c next-le (omega (arith, here .inside)))
+
   pub earlier-source :
       Source len (blockStart n c) (width n b c) (n - c) (blockStart n k) b (n - k) 0 (width n b c) b
   earlier-source =
-      let inside : c + width n b c ≤ n = omega (arith, width-le n b c, here .inside) in
-      let fits : blockStart n (k + b) ≤ blockStart n c = block-start-mono n (k + b) c next-le (omega (arith, here .inside)) in
-      let room : blockStart n (c + width n b c) ≤ triangle n =
-      omega (arith, triangle-columns n, block-start-mono n (c + width n b c) n inside (omega arith))
-      in
       record {
         order = omega (arith, here .order);
         below = omega arith;
         wide = omega arith;
         tall = width-le n b c;
-        room = omega (arith, block-end n c (width n b c) inside, here .size);
-        rows = omega (arith, block-end n k b (omega (arith, next-le, here .inside)), block-end n c (width n b c) inside, here .size);
+        room = block-room here;
+        rows = omega (arith, earlier-end, block-room here);
         columns = omega arith;
         known = omega (arith, next-le, here .inside);
-        apart = inl (omega (arith, block-end n k b (omega (arith, next-le, here .inside))));
+        apart = inl earlier-end;
       }
 
   -- row r of the block column, in the block column at k
@@ -72,7 +85,7 @@ module _ {n b c len : ℕ} (here : BlockAt n b c len) (k : ℕ) (first : blockOf
       rw above (omega (arith, at′, place-in-block-row b (c - k + r) i, place-in-block-row b (c - k + r) 0))
 
   module _
-      (m m₁ m₂ : List Float) (size : len ≡ length m)
+      {m m₁ m₂ : List Float}
       (done : PanelUpdated (blockStart n c) (width n b c) (n - c) 0 (width n b c) (rowOf n b c m) k m m₁)
       (step :
       PanelUpdated (blockStart n c) (width n b c) (n - c) 0 (width n b c) (sourceAt m₁ (blockStart n k) b (n - k - (n - c))) b m₁ m₂) where
@@ -82,10 +95,7 @@ module _ {n b c len : ℕ} (here : BlockAt n b c len) (k : ℕ) (first : blockOf
         let bound : rowStart b (n - k - (n - c) + r) + i < rowStart b (n - k) =
         row-lt b (n - k - (n - c) + r) (n - k) i (omega (arith, here .inside)) (omega (arith, next-le, here .inside))
         in
-        let fits : blockStart n k + rowStart b (n - k) ≤ blockStart n c =
-        omega (arith, block-end n k b (omega (arith, next-le, here .inside)), block-start-mono n (k + b) c next-le (omega (arith, here .inside)))
-        in
-        done .outside place (λ r′ s′ e z. omega arith) ∙ ap (λ p. getD m p nan) (sym (earlier-place r i few))
+        done .outside place (λ r′ s′ e z. omega (arith, earlier-end)) ∙ ap (λ p. getD m p nan) (sym (earlier-place r i few))
 
     pub earlier-next : PanelUpdated (blockStart n c) (width n b c) (n - c) 0 (width n b c) (rowOf n b c m) (k + b) m m₂
     earlier-next =

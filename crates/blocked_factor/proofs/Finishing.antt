@@ -1,185 +1,330 @@
--- Finishing a column of a block column: one row, eight rows, and rows after others. Assumes nothing.
-use Prim.Native.Nat.{ℕ, _+_, _-_, _≤_, _<_}
+-- Finishing a panel of a block column: a column of some rows, the columns of some rows, a diagonal, the rows with the diagonals, the rows below them,
+-- and panels after one another. Assumes nothing.
+use Prim.Native.Nat.{ℕ, suc, _+_, _-_, _≤_, _<_}
+use native.Mathlib.Nat.{le-refl}
 use native.Mathlib.Omega.{arith}
 use native.Mathlib.Decide.{decLt}
 use mathlib.Core.Path.{_≡_, refl, sym, ap, ap₂, _∙_}
-use mathlib.Core.Logic.{_≢_}
-use mathlib.Core.Bool.{Bool, true, _&&_, and-true}
+use mathlib.Core.Bool.{Bool, true, false, cond}
 use mathlib.Core.List.{List}
 use lib.ListN.{length, getD, set, length-set}
 use lib.Seq.{getD-set-same, getD-set-other}
 use lib.Ieee.{Float, nan, binary64, div}
-use Rattle.binary64.specs.Kinds.{finite}
-use Rattle.calls.specs.Sequences.{grow, tabulate, all}
+use Rattle.binary64.specs.Kinds.{positive}
+use Rattle.binary64.specs.Root.{root}
+use Rattle.binary64.specs.Judged.{judged}
+use Rattle.binary64.specs.declared.Pivot.{Pivot}
+use Rattle.binary64.specs.declared.Pivot.the-variants.{Root, Refused}
+use Rattle.calls.specs.declared.Verdict.{Verdict}
+use Rattle.calls.specs.Triangles.{Triangle}
 use Rattle.calls.specs.Arithmetic.{minusProducts}
-use Rattle.calls.proofs.Sequences.{tabulate-of, tabulate-same, tabulate-append, all-append}
-use Rattle.calls.proofs.Columns.{products-same}
-use Rattle.kernels.specs.Kernels.{Scattered}
-use Rattle.blocked_factor.specs.BlockColumns.{rowStart, rowAt, columnQuotient, RowsFinished, columnFinite}
-use Rattle.blocked_factor.proofs.BlockRows.{row-next, row-lt, row-apart}
+use Rattle.calls.specs.Refusals.{accepted, lowestRefusal, columnRules}
+use Rattle.kernels.specs.Kernels.{Scattered, rowAt}
+use Rattle.blocked_factor.specs.BlockColumns.{rowStart, sourceAt, lessPanel, PanelUpdated, ColumnDivided, rootOf}
+use Rattle.blocked_factor.specs.BlockStages.{judgePivot, Stage, allRows, rowsTo, topRows, RowsFinished, DiagonalFinished, TriangleFinished, BelowFinished, ColumnsFinished}
+use Rattle.blocked_factor.proofs.BlockRows.{row-next, row-mono, row-lt, row-apart}
+use Rattle.blocked_factor.proofs.Stages.{rows-in, rows-above, rows-under, stage-same, panel-pivot, panel-root, panel-quotient, stage-next, stage-updated, stage-all}
 
--- ---- what is judged
+-- ---- a column of one row, and of eight
 
--- the rows of column s from `from` on, `count` of them
-abbrev rowsOf : ℕ → ℕ → ℕ → List Float → Float → ℕ → ℕ → List Float
-rowsOf w s0 s m d from count = tabulate count (λ r. columnQuotient w s0 s m d (from + r))
-
-all-none : (f : ℕ → Float) (count : ℕ) → count ≡ 0 → true ≡ all finite (tabulate count f)
-unfolding all tabulate grow
-all-none f count e = rw e
-
-all-one : (f : ℕ → Float) (count : ℕ) → count ≡ 1 → finite (f 0) ≡ all finite (tabulate count f)
-unfolding all tabulate grow
-all-one f count e = rw e (sym (and-true (finite (f 0))))
-
-pub column-none : (w from s : ℕ) (m : List Float) → true ≡ columnFinite w from from m s
-column-none w from s m = all-none (λ i. getD m (rowStart w (from + i) + s) nan) (from - from) (omega arith)
-
-pub column-next :
-    (w from r s : ℕ) (m : List Float) → from ≤ r →
-    columnFinite w from r m s && finite (getD m (rowStart w r + s) nan) ≡ columnFinite w from (r + 1) m s
-column-next w from r s m low =
-    let f : ℕ → Float = λ i. getD m (rowStart w (from + i) + s) nan in
-    let row : r ≡ from + (r - from + 0) = omega arith in
-    let count : r - from + 1 ≡ r + 1 - from = omega arith in
-    ap (λ b. columnFinite w from r m s && b)
-    (ap (λ q. finite (getD m (rowStart w q + s) nan)) row ∙ all-one (λ i. f (r - from + i)) 1 refl)
-    ∙ sym (all-append finite (tabulate (r - from) f) (tabulate 1 (λ i. f (r - from + i))))
-    ∙ ap (all finite) (sym (tabulate-append f (r - from) 1))
-    ∙ ap (λ n. all finite (tabulate n f)) count
-
--- ---- no rows, and one
-
-module _ (w s0 s : ℕ) (d : Float) (m : List Float) where
-  pub rows-none : (from : ℕ) → RowsFinished w from from s0 s d m true m
-  rows-none from =
-      record {
-        kept = refl;
-        judged = all-none (λ r. columnQuotient w s0 s m d (from + r)) (from - from) (omega arith);
-        rows = λ r low high. absurd (omega arith);
-        outside = λ p h. refl;
-      }
-
-  module _ (r : ℕ) (left : s0 ≤ s) (narrow : s < w) (low : s < r) (room : rowStart w (r + 1) ≤ length m) where
-    pub rows-one :
-        (q : Float) →
-        q
-        ≡ div binary64 (minusProducts (rowAt m (rowStart w r + s0)) (rowAt m (rowStart w s + s0)) (s - s0)
-        (getD m (rowStart w r + s0 + (s - s0)) nan))
-        d →
-        RowsFinished w r (r + 1) s0 s d m (finite q) (set m (rowStart w r + s0 + (s - s0)) q)
-    rows-one q e =
-        let place : rowStart w r + s0 + (s - s0) ≡ rowStart w r + s = omega arith in
-        let value : q ≡ columnQuotient w s0 s m d r = (rw place at e) in
-        let first : r ≡ r + 0 = omega arith in
-        rw place
-        (record {
-          kept = length-set m (rowStart w r + s) q;
-          judged =
-              ap finite (value ∙ ap (columnQuotient w s0 s m d) first)
-              ∙ all-one (λ i. columnQuotient w s0 s m d (r + i)) (r + 1 - r) (omega arith);
-          rows = λ r′ from to.
-              let same : r′ ≡ r = omega arith in
-              rw same (getD-set-same m (rowStart w r + s) q nan (omega (arith, row-next w r)) ∙ value);
-          outside = λ p none. getD-set-other m (rowStart w r + s) p q nan (none r (omega arith) (omega arith));
-        })
-
--- ---- eight rows
-
-module _
-    (w r s0 s : ℕ) (at : ℕ → ℕ) (left : s0 ≤ s) (narrow : s < w) (low : s < r)
-    (places : (k : ℕ) → k < 8 → at k ≡ rowStart w (r + k) + s0) where
-  pub eight-inside : (k : ℕ) → k < 8 → at k + (s - s0) < rowStart w (r + 8)
-  eight-inside k few = omega (arith, places k few, row-lt w (r + k) (r + 8) s (omega arith) (omega arith))
-
-  pub eight-apart : (k k′ : ℕ) → k < 8 → k′ < 8 → at k ≡ at k′ → k ≡ k′
-  eight-apart k k′ few few′ e =
-      let same : r + k ≡ r + k′ =
-      row-apart w (r + k) (r + k′) s0 s0 (omega arith) (omega arith) (omega (arith, places k few, places k′ few′)) .0
-      in
-      omega arith
-
-  pub rows-eight :
-      (d : Float) (m m′ quotients : List Float) → length quotients ≡ 8 →
-      ((k : ℕ) → k < 8 →
-      getD quotients k nan
-      ≡ div binary64 (minusProducts (rowAt m (at k)) (rowAt m (rowStart w s + s0)) (s - s0) (getD m (at k + (s - s0)) nan)) d) →
-      Scattered 8 (λ k. at k + (s - s0)) (λ k. getD quotients k nan) m m′ → RowsFinished w r (r + 8) s0 s d m (all finite quotients) m′
-  rows-eight d m m′ quotients size values scattered =
-      let eight : 8 ≡ r + 8 - r = omega arith in
-      record {
-        kept = scattered .size;
-        judged =
-            ap (all finite) (sym (tabulate-of (λ k. columnQuotient w s0 s m d (r + k)) 8 quotients nan size value))
-            ∙ ap (λ n. all finite (rowsOf w s0 s m d r n)) eight;
+module _ (w s0 s r : ℕ) (left : s0 ≤ s) (narrow : s < w) (low : s < r) where
+  pub divided-one :
+      (m : List Float) → rowStart w (r + 1) ≤ length m →
+      ColumnDivided w s0 s r (r + 1) m
+      (set m (rowStart w r + s0 + (s - s0))
+      (div binary64
+      (minusProducts (rowAt m (rowStart w r + s0)) (rowAt m (rowStart w s + s0)) (s - s0) (getD m (rowStart w r + s0 + (s - s0)) nan))
+      (getD m (rowStart w s + s0 + (s - s0)) nan)))
+  divided-one m room =
+      let place : rowStart w r + s0 + (s - s0) ≡ rowStart w r + s = omega arith in
+      let diagonal : rowStart w s + s0 + (s - s0) ≡ rowStart w s + s = omega arith in
+      let v : Float = div binary64 (lessPanel w s0 m r s) (getD m (rowStart w s + s) nan) in
+      rw (place, diagonal)
+      (record {
+        kept = length-set m (rowStart w r + s) v;
         rows = λ r′ from to.
-            let row : r + (r′ - r) ≡ r′ = omega arith in
-            let few : r′ - r < 8 = omega arith in
-            let place : at (r′ - r) + (s - s0) ≡ rowStart w r′ + s = omega (arith, places (r′ - r) few, ap (rowStart w) row) in
-            (rw place at (scattered .inside (r′ - r) few)) ∙ value (r′ - r) few ∙ ap (columnQuotient w s0 s m d) row;
-        outside = λ p none.
-            scattered .outside p (λ k few e. none (r + k) (omega arith) (omega arith) (omega (arith, places k few)));
-      }
-    where
-      value : (k : ℕ) → k < 8 → getD quotients k nan ≡ columnQuotient w s0 s m d (r + k)
-      value k few =
-          let place : at k + (s - s0) ≡ rowStart w (r + k) + s = omega (arith, places k few) in
-          values k few
-          ∙ ap₂ (λ x y. div binary64 (minusProducts (rowAt m x) (rowAt m (rowStart w s + s0)) (s - s0) (getD m y nan)) d) (places k few) place
+            let same : r′ ≡ r = omega arith in
+            rw same (getD-set-same m (rowStart w r + s) v nan (omega (arith, row-next w r)));
+        outside = λ p none. getD-set-other m (rowStart w r + s) p v nan (none r (omega arith) (omega arith));
+      })
 
--- ---- rows after others
+  module _ (at : ℕ → ℕ) (places : (k : ℕ) → k < 8 → at k ≡ rowStart w (r + k) + s0) where
+    pub eight-inside : (k : ℕ) → k < 8 → at k + (s - s0) < rowStart w (r + 8)
+    eight-inside k few = omega (arith, places k few, row-lt w (r + k) (r + 8) s (omega arith) (omega arith))
+
+    pub eight-apart : (k k′ : ℕ) → k < 8 → k′ < 8 → at k ≡ at k′ → k ≡ k′
+    eight-apart k k′ few few′ e =
+        let same : r + k ≡ r + k′ =
+        row-apart w (r + k) (r + k′) s0 s0 (omega arith) (omega arith) (omega (arith, places k few, places k′ few′)) .0
+        in
+        omega arith
+
+    pub divided-eight :
+        (m m′ quotients : List Float) →
+        ((k : ℕ) → k < 8 →
+        getD quotients k nan
+        ≡ div binary64 (minusProducts (rowAt m (at k)) (rowAt m (rowStart w s + s0)) (s - s0) (getD m (at k + (s - s0)) nan))
+        (getD m (rowStart w s + s) nan)) →
+        Scattered 8 (λ k. at k + (s - s0)) (λ k. getD quotients k nan) m m′ → ColumnDivided w s0 s r (r + 8) m m′
+    divided-eight m m′ quotients values scattered =
+        record {
+          kept = scattered .size;
+          rows = λ r′ from to.
+              let row : r + (r′ - r) ≡ r′ = omega arith in
+              let few : r′ - r < 8 = omega arith in
+              let start : at (r′ - r) ≡ rowStart w r′ + s0 = places (r′ - r) few ∙ ap (λ q. rowStart w q + s0) row in
+              let place : at (r′ - r) + (s - s0) ≡ rowStart w r′ + s = omega arith in
+              (rw place at (scattered .inside (r′ - r) few))
+              ∙ values (r′ - r) few
+              ∙ ap₂
+              (λ x y.
+              div binary64 (minusProducts (rowAt m x) (rowAt m (rowStart w s + s0)) (s - s0) (getD m y nan)) (getD m (rowStart w s + s) nan)) start place;
+          outside = λ p none.
+              scattered .outside p (λ k few e. none (r + k) (omega arith) (omega arith) (omega (arith, places k few)));
+        }
+
+-- ---- the columns of some rows, one after another
+
+pub rows-none : (w s0 from to : ℕ) (m : List Float) → RowsFinished w s0 s0 from to m m
+rows-none w s0 from to m =
+    record {
+      kept = refl;
+      beyond = λ p far. refl;
+      stage = λ n a c e limit fit right known rows stage.
+          stage-same (λ r s lower high under. rw (at limit rows r) at under) (λ r s lower high over right′. rw (at limit rows r) at over) stage;
+    }
+  where
+    at : (limit : ℕ → ℕ) → ((r : ℕ) → from ≤ r → r < to → limit r ≡ s0) → (r : ℕ) → rowsTo from to s0 limit r ≡ limit r
+    at limit rows r =
+        elim (decLt r from) [
+          | yes p ↦ rows-above from to s0 limit r p
+          | no p ↦
+              elim (decLt r to) [
+                | yes q ↦ rows-in from to s0 limit r (omega arith) q ∙ sym (rows r (omega arith) q)
+                | no q ↦ rows-under from to s0 limit r (omega arith)
+              ]
+        ]
+
+pub rows-next :
+    {w s0 s from to : ℕ} {m m₁ m₂ : List Float} → s0 ≤ s → s < w → s < from → RowsFinished w s0 s from to m m₁ →
+    ColumnDivided w s0 s from to m₁ m₂ → RowsFinished w s0 (s + 1) from to m m₂
+rows-next {w} {s0} {s} {from} {to} {m} {m₁} {m₂} left narrow under before column =
+    record {
+      kept = column .kept ∙ before .kept;
+      beyond = λ p far.
+          column .outside p (λ r l h z. omega (arith, row-lt w r to s h (omega arith))) ∙ before .beyond p far;
+      stage = λ n a c e limit fit right known rows stage.
+          let now : Stage n a c w s0 e (rowsTo from to s limit) m₁ =
+          before .stage n a c e limit fit (omega arith) (λ k l u. known k l (omega arith)) rows stage
+          in
+          let diagonal : s < rowsTo from to s limit s = rw (rows-above from to s limit s under) (known s left (omega arith)) in
+          stage-next now s left (omega arith) narrow from to (rowsTo from to (s + 1) limit) m₂ (omega arith)
+          (λ r l h high.
+          column .rows r l h
+          ∙ panel-quotient now s left (omega arith) narrow r (omega arith) high (rows-in from to s limit r l h) diagonal)
+          (column .outside) (λ r. rows-in from to s limit r) (λ r. rows-in from to (s + 1) limit r)
+          (λ r up. rows-above from to (s + 1) limit r up ∙ sym (rows-above from to s limit r up))
+          (λ r down. rows-under from to (s + 1) limit r down ∙ sym (rows-under from to s limit r down));
+    }
+
+-- ---- a diagonal
+
+root-of : (x : Float) → rootOf (judged x) ≡ root x
+unfolding judged
+root-of x = go (positive x)
+  where
+    go : (b : Bool) → rootOf (cond b (Root (root x)) (Refused x)) ≡ root x
+    go true = refl
+    go false = refl
+
+module _ (c w s0 s : ℕ) (before answer : Verdict) (m : List Float) (left : s0 ≤ s) (narrow : s < w) (room : rowStart w (s + 1) ≤ length m) where
+  pub diagonal-finished :
+      (q : Pivot) →
+      q
+      ≡ judged
+      (minusProducts (rowAt m (rowStart w s + s0)) (rowAt m (rowStart w s + s0)) (s - s0) (getD m (rowStart w s + s0 + (s - s0)) nan)) →
+      answer ≡ cond (accepted before) (columnRules (c + s) q true) before →
+      DiagonalFinished c w s0 s before m answer (set m (rowStart w s + s0 + (s - s0)) (rootOf q))
+  unfolding lowestRefusal
+  diagonal-finished q pivot judgement =
+      let place : rowStart w s + s0 + (s - s0) ≡ rowStart w s + s = omega arith in
+      let p : Float = lessPanel w s0 m s s in
+      let d : Float = rootOf q in
+      let is : q ≡ judged p = (rw place at pivot) in
+      rw place
+      (record {
+        kept = length-set m (rowStart w s + s) d;
+        beyond = λ x far. getD-set-other m (rowStart w s + s) x d nan (λ z. omega (arith, row-next w s));
+        stage = λ n a e limit high right here stage.
+            stage-next stage s left right narrow s (s + 1) (rowsTo s (s + 1) (s + 1) limit) (set m (rowStart w s + s) d) (le-refl s)
+            (λ r l h high′.
+            let same : r ≡ s = omega arith in
+            rw same
+            (getD-set-same m (rowStart w s + s) d nan (omega (arith, row-next w s))
+            ∙ ap rootOf is
+            ∙ root-of p
+            ∙ panel-root stage s left right narrow high here))
+            (λ x none. getD-set-other m (rowStart w s + s) x d nan (none s (omega arith) (omega arith)))
+            (λ r l h. let same : r ≡ s = omega arith in rw same here) (λ r. rows-in s (s + 1) (s + 1) limit r)
+            (λ r. rows-above s (s + 1) (s + 1) limit r) (λ r. rows-under s (s + 1) (s + 1) limit r);
+        verdict = λ n a e limit high right here stage first.
+            let next : c + (s + 1) ≡ suc (c + s) = omega arith in
+            judgement
+            ∙ ap₂ (λ b x. cond (accepted b) (columnRules (c + s) x true) b) first
+            (is ∙ ap judged (panel-pivot stage s left right narrow high here))
+            ∙ sym (ap (lowestRefusal (judgePivot n a)) next);
+      })
+
+-- ---- the rows with the diagonals
+
+pub triangle-none : (c w s0 e : ℕ) (v : Verdict) (m : List Float) → TriangleFinished c w s0 e s0 v m v m
+triangle-none c w s0 e v m =
+    record {
+      kept = refl;
+      beyond = λ p far. refl;
+      stage = λ n a fit stage.
+          stage-same
+          (λ r s lower high under.
+          elim (decLt r s0) [
+            | yes p ↦ omega arith
+            | no p ↦ rw (rows-under 0 s0 e (allRows s0) r (omega arith)) at under
+          ])
+          (λ r s lower high over right.
+          elim (decLt r s0) [
+            | yes p ↦ absurd (omega (arith, rows-in 0 s0 e (allRows s0) r (omega arith) p))
+            | no p ↦ rw (rows-under 0 s0 e (allRows s0) r (omega arith)) at over
+          ])
+          stage;
+      verdict = λ n a fit stage first. first;
+    }
 
 module _
-    (w a b s0 s : ℕ) (d : Float) (m m₁ : List Float) (ok : Bool) (before : RowsFinished w a b s0 s d m ok m₁) (low : s < a) (left : s0 ≤ s)
-    (narrow : s < w) where
-  -- entries of other columns, and of rows from b on, are as they were
-  other-kept : (r′ s′ : ℕ) → s′ ≤ r′ → s′ < w → s′ ≢ s → getD m₁ (rowStart w r′ + s′) nan ≡ getD m (rowStart w r′ + s′) nan
-  other-kept r′ s′ lower narrow′ ne =
-      before .outside (rowStart w r′ + s′) (λ r″ l h e. ne (row-apart w r′ r″ s′ s (omega arith) (omega arith) e .1))
+    {c w s0 e s : ℕ} {v v₁ v₂ : Verdict} {m m₁ m₂ m₃ : List Float} (left : s0 ≤ s) (right : s < e) (before : TriangleFinished c w s0 e s v m v₁ m₁)
+    (row : RowsFinished w s0 s s (s + 1) m₁ m₂) (diagonal : DiagonalFinished c w s0 s v₁ m₂ v₂ m₃) where
+  module _ (n : ℕ) (a : Triangle) (fit : c + (s + 1) ≤ n) (stage : Stage n a c w s0 e (allRows s0) m) where
+    abbrev limit : ℕ → ℕ
+    limit = rowsTo s (s + 1) s (topRows s0 e s)
 
-  here-kept : (r : ℕ) → a ≤ r → b ≤ r → getD m₁ (rowStart w r + s) nan ≡ getD m (rowStart w r + s) nan
-  here-kept r above after =
-      before .outside (rowStart w r + s)
-      (λ r″ l h e. let same : r ≡ r″ = row-apart w r r″ s s (omega arith) (omega arith) e .0 in omega arith)
+    row-finished : Stage n a c w s0 e limit m₂
+    row-finished =
+        row .stage n a c e (topRows s0 e s) fit (omega arith)
+        (λ k l u. omega (arith, rows-in 0 s e (allRows s0) k (omega arith) u))
+        (λ r l h. rows-under 0 s e (allRows s0) r l) (before .stage n a (omega arith) stage)
 
-  quotient-kept : (r : ℕ) → a ≤ r → b ≤ r → columnQuotient w s0 s m₁ d r ≡ columnQuotient w s0 s m d r
-  quotient-kept r above after =
-      ap (λ t. div binary64 t d)
-      (products-same (rowAt m₁ (rowStart w r + s0)) (rowAt m (rowStart w r + s0)) (rowAt m₁ (rowStart w s + s0)) (rowAt m (rowStart w s + s0))
-      (s - s0)
-      (getD m₁ (rowStart w r + s) nan) (λ k few. moved r k (omega arith) few) (λ k few. moved s k (omega arith) few)
-      ∙ ap (minusProducts (rowAt m (rowStart w r + s0)) (rowAt m (rowStart w s + s0)) (s - s0)) (here-kept r above after))
-    where
-      moved : (r′ k : ℕ) → s ≤ r′ → k < s - s0 → rowAt m₁ (rowStart w r′ + s0) k ≡ rowAt m (rowStart w r′ + s0) k
-      moved r′ k h few =
-          let place : rowStart w r′ + (s0 + k) ≡ rowStart w r′ + s0 + k = omega arith in
-          rw place at (other-kept r′ (s0 + k) (omega arith) (omega arith) (λ e. omega arith))
+    same-above : (r : ℕ) → r < s → (rowsTo s (s + 1) (s + 1) limit r ≡ e) × (topRows s0 e (s + 1) r ≡ e)
+    same-above r up = (
+      (rows-above s (s + 1) (s + 1) limit r up ∙ rows-above s (s + 1) s (topRows s0 e s) r up ∙ rows-in 0 s e (allRows s0) r (omega arith) up),
+      rows-in 0 (s + 1) e (allRows s0) r (omega arith) (omega arith),
+    )
 
-  pub rows-join :
-      (e : ℕ) (m₂ : List Float) (ok′ : Bool) → a ≤ b → b ≤ e → RowsFinished w b e s0 s d m₁ ok′ m₂ → RowsFinished w a e s0 s d m (ok && ok′) m₂
-  rows-join e m₂ ok′ ab be then =
-      let split : b - a + (e - b) ≡ e - a = omega arith in
+    same-under : (r : ℕ) → s < r → (rowsTo s (s + 1) (s + 1) limit r ≡ s0) × (topRows s0 e (s + 1) r ≡ s0)
+    same-under r down = (
+      (rows-under s (s + 1) (s + 1) limit r (omega arith)
+          ∙ rows-under s (s + 1) s (topRows s0 e s) r (omega arith)
+          ∙ rows-under 0 s e (allRows s0) r (omega arith)),
+      rows-under 0 (s + 1) e (allRows s0) r (omega arith),
+    )
+
+    diagonal-stage : Stage n a c w s0 e (topRows s0 e (s + 1)) m₃
+    diagonal-stage =
+        stage-same
+        (λ r k lower high under.
+        elim (decLt r s) [
+          | yes p ↦ omega (arith, same-above r p)
+          | no p ↦
+              elim (decLt s r) [
+                | yes q ↦ omega (arith, same-under r q)
+                | no q ↦ omega (arith, rows-in s (s + 1) (s + 1) limit r (omega arith) (omega arith))
+              ]
+        ])
+        (λ r k lower high over right′.
+        elim (decLt s r) [
+          | yes q ↦ omega (arith, same-under r q)
+          | no q ↦ absurd (omega (arith, rows-in 0 (s + 1) e (allRows s0) r (omega arith) (omega arith)))
+        ])
+        (diagonal .stage n a e limit (omega arith) right (rows-in s (s + 1) s (topRows s0 e s) s (omega arith) (omega arith)) row-finished)
+
+  pub triangle-next : TriangleFinished c w s0 e (s + 1) v m v₂ m₃
+  triangle-next =
       record {
-        kept = then .kept ∙ before .kept;
-        judged =
-            ap₂ _&&_ (before .judged)
-            (then .judged
-            ∙ ap (all finite)
-            (tabulate-same (λ i. columnQuotient w s0 s m₁ d (b + i)) (λ i. columnQuotient w s0 s m d (a + (b - a + i))) (e - b)
-            (λ i h.
-            let place : b + i ≡ a + (b - a + i) = omega arith in
-            quotient-kept (b + i) (omega arith) (omega arith) ∙ ap (columnQuotient w s0 s m d) place)))
-            ∙ sym (all-append finite (rowsOf w s0 s m d a (b - a)) (tabulate (e - b) (λ i. columnQuotient w s0 s m d (a + (b - a + i)))))
-            ∙ ap (all finite) (sym (tabulate-append (λ r. columnQuotient w s0 s m d (a + r)) (b - a) (e - b)))
-            ∙ ap (λ n. all finite (rowsOf w s0 s m d a n)) split;
-        rows = λ r from to.
-            elim (decLt r b) [
-              | yes p ↦
-                  then .outside (rowStart w r + s)
-                  (λ r′ l h z. let same : r ≡ r′ = row-apart w r r′ s s (omega arith) (omega arith) z .0 in omega arith)
-                  ∙ before .rows r from p
-              | no p ↦ then .rows r (omega arith) to ∙ quotient-kept r from (omega arith)
-            ];
-        outside = λ p none.
-            then .outside p (λ r l h. none r (omega arith) h) ∙ before .outside p (λ r l h. none r l (omega arith));
+        kept = diagonal .kept ∙ row .kept ∙ before .kept;
+        beyond = λ p far.
+            diagonal .beyond p far ∙ row .beyond p far ∙ before .beyond p (omega (arith, row-mono w s (s + 1) (omega arith)));
+        stage = diagonal-stage;
+        verdict = λ n a fit stage first.
+            diagonal .verdict n a e (limit n a fit stage) (omega arith) right
+            (rows-in s (s + 1) s (topRows s0 e s) s (omega arith) (omega arith)) (row-finished n a fit stage)
+            (before .verdict n a (omega arith) stage first);
       }
+
+-- ---- the rows below
+
+pub below-none : (w s0 e from : ℕ) (m : List Float) → BelowFinished w s0 e from from m m
+below-none w s0 e from m = record { kept = refl; beyond = λ p far. refl; stage = λ n a c fit stage. stage }
+
+pub below-next :
+    {w s0 e from r : ℕ} {m m₁ m₂ : List Float} (g : ℕ) → e ≤ r → BelowFinished w s0 e from r m m₁ → RowsFinished w s0 e r (r + g) m₁ m₂ →
+    BelowFinished w s0 e from (r + g) m m₂
+below-next {w} {s0} {e} {from} {r} {m} {m₁} {m₂} g low before rows =
+    record {
+      kept = rows .kept ∙ before .kept;
+      beyond = λ p far. rows .beyond p far ∙ before .beyond p (omega (arith, row-mono w r (r + g) (omega arith)));
+      stage = λ n a c fit stage.
+          let now : Stage n a c w s0 e (rowsTo r (r + g) e (topRows s0 e r)) m₂ =
+          rows .stage n a c e (topRows s0 e r) fit (le-refl e) (λ k l u. omega (arith, rows-in 0 r e (allRows s0) k (omega arith) (omega arith)))
+          (λ q l h. rows-under 0 r e (allRows s0) q l) (before .stage n a c (omega arith) stage)
+          in
+          stage-same (λ q k lower high under. rw (at q) at under) (λ q k lower high over right. rw (at q) at over) now;
+    }
+  where
+    at : (q : ℕ) → topRows s0 e (r + g) q ≡ rowsTo r (r + g) e (topRows s0 e r) q
+    at q =
+        elim (decLt q r) [
+          | yes p ↦
+              rows-in 0 (r + g) e (allRows s0) q (omega arith) (omega arith)
+              ∙ sym (rows-above r (r + g) e (topRows s0 e r) q p ∙ rows-in 0 r e (allRows s0) q (omega arith) p)
+          | no p ↦
+              elim (decLt q (r + g)) [
+                | yes h ↦
+                    rows-in 0 (r + g) e (allRows s0) q (omega arith) h ∙ sym (rows-in r (r + g) e (topRows s0 e r) q (omega arith) h)
+                | no h ↦
+                    rows-under 0 (r + g) e (allRows s0) q (omega arith)
+                    ∙ sym (rows-under r (r + g) e (topRows s0 e r) q (omega arith) ∙ rows-under 0 r e (allRows s0) q (omega arith))
+              ]
+        ]
+
+-- ---- panels
+
+pub panel-finished :
+    {c w h s0 g : ℕ} {before answer : Verdict} {m m₁ m₂ m₃ : List Float} → s0 + g ≤ w → w ≤ h →
+    PanelUpdated 0 w h s0 g (sourceAt m 0 w (h - h)) s0 m m₁ → TriangleFinished c w s0 (s0 + g) (s0 + g) before m₁ answer m₂ →
+    BelowFinished w s0 (s0 + g) (s0 + g) h m₂ m₃ → ColumnsFinished c w h s0 (s0 + g) before m answer m₃
+panel-finished {c} {w} {h} {s0} {g} {m = m} {m₁} {m₂} {m₃} wide tall update triangle below =
+    record {
+      kept = below .kept ∙ triangle .kept ∙ update .kept;
+      beyond = λ p far.
+          below .beyond p far
+          ∙ triangle .beyond p (omega (arith, row-mono w (s0 + g) h (omega arith)))
+          ∙ update .outside p (λ r s there z. omega (arith, row-lt w r h s (there .row) (omega (arith, there .lower, there .right))));
+      stage = λ n a order stage.
+          stage-all n a c w h s0 (s0 + g) m₃ order
+          (below .stage n a c (omega arith)
+          (triangle .stage n a (omega arith) (stage-updated n a c w h s0 g m m₁ order wide tall stage update)));
+      verdict = λ n a order stage first.
+          triangle .verdict n a (omega arith) (stage-updated n a c w h s0 g m m₁ order wide tall stage update) first;
+    }
+
+pub columns-none : (c w h s : ℕ) (v : Verdict) (m : List Float) → ColumnsFinished c w h s s v m v m
+columns-none c w h s v m =
+    record { kept = refl; beyond = λ p far. refl; stage = λ n a order stage. stage; verdict = λ n a order stage first. first }
+
+pub columns-join :
+    {c w h s s′ s″ : ℕ} {v v₁ v₂ : Verdict} {m m₁ m₂ : List Float} → ColumnsFinished c w h s s′ v m v₁ m₁ → ColumnsFinished c w h s′ s″ v₁ m₁ v₂ m₂ →
+    ColumnsFinished c w h s s″ v m v₂ m₂
+columns-join before then =
+    record {
+      kept = then .kept ∙ before .kept;
+      beyond = λ p far. then .beyond p far ∙ before .beyond p far;
+      stage = λ n a order stage. then .stage n a order (before .stage n a order stage);
+      verdict = λ n a order stage first. then .verdict n a order (before .stage n a order stage) (before .verdict n a order stage first);
+    }

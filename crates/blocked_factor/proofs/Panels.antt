@@ -14,9 +14,9 @@ use lib.Ieee.{Float, nan}
 use Rattle.shape.specs.Bounds.{maxOrder}
 use Rattle.calls.specs.Arithmetic.{minusProducts}
 use Rattle.calls.proofs.Columns.{products-same}
-use Rattle.kernels.specs.Kernels.{Filled, Replaced}
+use Rattle.kernels.specs.Kernels.{Filled, Scattered, rowAt, laneAt}
 use Rattle.kernels.proofs.Parts.{filled-next, filled-same}
-use Rattle.blocked_factor.specs.BlockColumns.{rowStart, rowAt, laneAt, sourceAt, Packed, InPanel, PanelUpdated, Source}
+use Rattle.blocked_factor.specs.BlockColumns.{rowStart, sourceAt, Packed, InPanel, PanelUpdated, Source}
 use Rattle.blocked_factor.proofs.BlockRows.{row-next, row-mono, row-lt, row-apart}
 
 -- ---- a row
@@ -37,16 +37,6 @@ entries-next m m′ start w first x y count t v hx hr room filled e =
     in
     filled-next nan y (λ u. minusProducts (rowAt m x) (rowAt m (start + rowStart w (first + u))) count (getD m (y + u) nan)) m t m′ v room filled new
 
--- the first len of 16 lanes loaded, worked on and stored
-pub filled-lanes :
-    (m m′ panel start lanes : List Float) (x y len count : ℕ) → len ≤ 16 → ((t : ℕ) → t < len → getD start t nan ≡ getD m (y + t) nan) →
-    ((t : ℕ) → t < 16 → getD lanes t nan ≡ minusProducts (rowAt m x) (laneAt panel t) count (getD start t nan)) →
-    Replaced nan y len m lanes m′ →
-    Filled nan y len (λ t. minusProducts (rowAt m x) (laneAt panel t) count (getD m (y + t) nan)) m m′
-filled-lanes m m′ panel start lanes x y len count few loaded worked filled =
-    filled-same nan y len (λ t. getD lanes t nan) (λ t. minusProducts (rowAt m x) (laneAt panel t) count (getD m (y + t) nan)) m m′
-    (λ t h. worked t (omega arith) ∙ ap (minusProducts (rowAt m x) (laneAt panel t) count) (loaded t h)) filled
-
 -- by a packed panel
 pub filled-packed :
     (m m′ panel : List Float) (start w first x y len count : ℕ) → Packed panel m start w first count len →
@@ -59,6 +49,23 @@ filled-packed m m′ panel start w first x y len count packed filled =
     products-same (rowAt m x) (rowAt m x) (laneAt panel t) (rowAt m (start + rowStart w (first + t))) count (getD m (y + t) nan)
     (λ k below. refl) (λ k below. packed .lane t k h below))
     filled
+
+-- ---- packing a panel, row by row
+
+pub packed-none : (panel m : List Float) (start w first count : ℕ) → Packed panel m start w first count 0
+packed-none panel m start w first count = record { lane = λ t k h few. absurd (omega arith) }
+
+pub packed-next :
+    (panel panel′ m : List Float) (start w first count t : ℕ) → Packed panel m start w first count t → t < 16 →
+    Scattered count (λ k. 16 * k + t) (rowAt m (start + rowStart w (first + t))) panel panel′ → Packed panel′ m start w first count (t + 1)
+packed-next panel panel′ m start w first count t before h lane =
+    record {
+      lane = λ u k p few.
+          elim (decLt u t) [
+            | yes q ↦ lane .outside (16 * k + u) (λ k′ h′ e. omega arith) ∙ before .lane u k q few
+            | no q ↦ let same : u ≡ t = omega arith in rw same (lane .inside k few)
+          ];
+    }
 
 -- ---- the source of a panel's products
 
@@ -104,6 +111,31 @@ module _ {len at w h sat sw sh s0 g count : ℕ} (source : Source len at w h sat
   source-room : (r : ℕ) → s0 ≤ r → r < h → sat + rowStart sw (sh - h + r) + count ≤ len
   source-room r low high = omega (arith, row-inside r low high, source .rows)
 
+  -- where the first row starts, in the source and in the panel
+  pub first-fits : (sat + rowStart sw (sh - h + s0) ≤ len) × (at + rowStart w s0 ≤ len) × (sh - h + s0 ≤ maxOrder) × (s0 ≤ h) × (h ≤ sh)
+  first-fits =
+      let high : s0 ≤ h = omega (arith, source .wide, source .tall) in
+      omega (arith, source, row-mono sw (sh - h + s0) sh (omega (arith, source .below)), row-mono w s0 h high)
+
+  -- and the one after row r
+  pub next-fits :
+      (r x y : ℕ) → r < h → x ≡ sat + rowStart sw (sh - h + r) → y ≡ at + rowStart w r + s0 →
+      (x + min (sh - h + (r + 1)) sw ≡ sat + rowStart sw (sh - h + (r + 1)))
+      × (y + min (r + 1) w ≡ at + rowStart w (r + 1) + s0)
+      × (sat + rowStart sw (sh - h + (r + 1)) ≤ len)
+      × (at + rowStart w (r + 1) + s0 ≤ len + maxOrder)
+  next-fits r x y high ex ey =
+      let next : sh - h + r + 1 ≡ sh - h + (r + 1) = omega arith in
+      omega (
+        arith,
+        source,
+        row-next sw (sh - h + r),
+        ap (rowStart sw) next,
+        row-next w r,
+        row-mono sw (sh - h + (r + 1)) sh (omega (arith, source .below)),
+        row-mono w (r + 1) h (omega arith),
+      )
+
   -- what `pack` asks
   pub pack-ready :
       (spare : ℕ) → g ≤ 16 → 16 * count ≤ spare →
@@ -119,12 +151,12 @@ module _ {len at w h sat sw sh s0 g count : ℕ} (source : Source len at w h sat
 
 -- ---- a panel, row by row
 
-pub panel-none : (at w s0 g : ℕ) (x : ℕ → ℕ → Float) (count : ℕ) (m : List Float) → PanelUpdated at w s0 s0 g x count m m
-panel-none at w s0 g x count m =
-    record { kept = refl; inside = λ r s e. absurd (omega (arith, e .lower, e .row, e .left)); outside = λ p h. refl }
+pub panel-none :
+    {at w h s0 g : ℕ} {x : ℕ → ℕ → Float} {count : ℕ} {m : List Float} → ((r s : ℕ) → InPanel h s0 g r s → ⊥) → PanelUpdated at w h s0 g x count m m
+panel-none none = record { kept = refl; inside = λ r s e. absurd (none r s e); outside = λ p h. refl }
 
 module _
-    {at w h sat sw sh s0 g count : ℕ} (m m₁ m₂ : List Float) (source : Source (length m) at w h sat sw sh s0 g count) (r : ℕ) (low : s0 ≤ r)
+    {at w h sat sw sh s0 g count : ℕ} {m m₁ : List Float} (source : Source (length m) at w h sat sw sh s0 g count) (r : ℕ) (low : s0 ≤ r)
     (high : r < h) (before : PanelUpdated at w r s0 g (sourceAt m sat sw (sh - h)) count m m₁) where
   abbrev x : ℕ → ℕ → Float
   x = sourceAt m sat sw (sh - h)
@@ -178,6 +210,7 @@ module _
   )
 
   module _
+      {m₂ : List Float}
       (filled :
       Filled nan (at + rowStart w r + s0) (min g (r + 1 - s0))
       (λ t.
@@ -245,12 +278,8 @@ source-part s0 g source wide =
       apart = source .apart;
     }
 
-pub columns-none : (at w h : ℕ) (x : ℕ → ℕ → Float) (count : ℕ) (m : List Float) → PanelUpdated at w h 0 0 x count m m
-columns-none at w h x count m =
-    record { kept = refl; inside = λ r s e. absurd (omega (arith, e .right)); outside = λ p none. refl }
-
 module _
-    {at w h sat sw sh count : ℕ} (m m₁ m₂ : List Float) (source : Source (length m) at w h sat sw sh 0 w count) (s0 g : ℕ) (wide : s0 + g ≤ w)
+    {at w h sat sw sh count s0 g : ℕ} {m m₁ m₂ : List Float} (source : Source (length m) at w h sat sw sh 0 w count) (wide : s0 + g ≤ w)
     (before : PanelUpdated at w h 0 s0 (sourceAt m sat sw (sh - h)) count m m₁)
     (after : PanelUpdated at w h s0 g (sourceAt m₁ sat sw (sh - h)) count m₁ m₂) where
   abbrev y : ℕ → ℕ → Float

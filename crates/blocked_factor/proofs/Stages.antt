@@ -1,151 +1,145 @@
--- The stages of a block column: one column more, the own products of a panel, and the verdict. Assumes nothing.
-use Prim.Native.Nat.{ℕ, zero, suc, _+_, _-_, _≤_, _<_}
-use native.Mathlib.Nat.{add-zero, add-suc}
+-- The stages of a block column: what an entry is next, one column more in some rows, and the own products of a panel. Assumes nothing.
+use Prim.Native.Nat.{ℕ, _+_, _-_, _≤_, _<_}
 use native.Mathlib.Omega.{arith}
-use native.Mathlib.Decide.{decLt}
+use native.Mathlib.Decide.{decLt, decLe}
 use mathlib.Core.Path.{_≡_, sym, ap, ap₂, _∙_}
-use mathlib.Core.Bool.{false}
-use mathlib.Core.List.{List, [], _∷_}
+use mathlib.Core.Logic.{_≢_}
+use mathlib.Core.Bool.{and-false}
+use mathlib.Core.List.{List}
+use borrow.Author.Tests.{le-leb, lt-leb, le-ltb, lt-ltb}
+use lib.Dec.{leb}
 use lib.ListN.{getD}
 use lib.Ieee.{Float, nan, binary64, div}
 use Rattle.binary64.specs.Root.{root}
-use Rattle.binary64.specs.Judged.{judged}
-use Rattle.binary64.specs.declared.Pivot.the-variants.{Root}
-use Rattle.calls.specs.declared.CallResult.{CallResult}
-use Rattle.calls.specs.Sequences.{tabulate}
-use Rattle.calls.specs.Triangles.{Triangle, entry, height}
-use Rattle.calls.specs.Arithmetic.{minusProducts, pivot, quotient, below}
-use Rattle.calls.specs.Refusals.{success, accepted, firstRefusal, lowestRefusal, rule10, rule11, columnRules}
-use Rattle.calls.proofs.Sequences.{tabulate-same}
+use Rattle.calls.specs.Triangles.{Triangle, entry}
+use Rattle.calls.specs.Arithmetic.{minusProducts, pivot, quotient}
 use Rattle.calls.proofs.Columns.{columns, products-same, entry-diagonal, entry-quotient}
 use Rattle.calls.proofs.Entries.{row-products}
-use Rattle.calls.proofs.Judging.{judged-root}
-use Rattle.blocked_factor.specs.BlockColumns.{rowStart, rowAt, sourceAt, lessSolved, quotientSolved, judgeSolved, PanelUpdated}
-use Rattle.blocked_factor.specs.BlockStages.{factorEntry, lessProducts, judgeColumn, Stage}
 use Rattle.kernels.proofs.Products.{minus-add}
+use Rattle.kernels.specs.Kernels.{rowAt}
+use Rattle.blocked_factor.specs.BlockColumns.{rowStart, sourceAt, lessPanel, PanelUpdated}
+use Rattle.blocked_factor.specs.BlockStages.{factorEntry, lessProducts, Stage, allRows, rowsTo, topRows}
 use Rattle.blocked_factor.proofs.BlockRows.{row-apart}
 
--- ---- verdicts
+-- ---- limits
 
--- what is refused stays refused
-pub lowest-stays : (judge : ℕ → CallResult) (k d : ℕ) → accepted (lowestRefusal judge k) ≡ false → lowestRefusal judge (k + d) ≡ lowestRefusal judge k
-unfolding lowestRefusal
-lowest-stays judge k zero e = rw add-zero
-lowest-stays judge k (suc d) e = rw (add-suc, lowest-stays judge k d e, e)
+module _ (from to s : ℕ) (limit : ℕ → ℕ) (r : ℕ) where
+  pub rows-in : from ≤ r → r < to → rowsTo from to s limit r ≡ s
+  rows-in low high = rw (le-leb from r low, lt-ltb r to high)
 
--- one success after another
-pub lowest-run :
-    (judge : ℕ → CallResult) (k d : ℕ) → lowestRefusal judge k ≡ success → ((i : ℕ) → i < d → judge (k + i) ≡ success) →
-    lowestRefusal judge (k + d) ≡ success
-unfolding lowestRefusal
-lowest-run judge k zero first each = rw add-zero first
-lowest-run judge k (suc d) first each =
-    rw (add-suc, lowest-run judge k d first (λ i few. each i (omega arith))) (each d (omega arith))
+  pub rows-above : r < from → rowsTo from to s limit r ≡ limit r
+  rows-above up = rw (lt-leb from r up)
 
--- ---- a panel: columns s0 .. e − 1 of m, started, are finished in m′
+  pub rows-under : to ≤ r → rowsTo from to s limit r ≡ limit r
+  rows-under down = rw (le-ltb r to down, and-false (leb from r))
 
-module _
-    (n : ℕ) (a : Triangle) (c w h s0 e : ℕ) (m m′ : List Float) (stage : Stage n a c w s0 e s0 m) (order : c + h ≡ n) (narrow : e ≤ w)
-    (tall : w ≤ h) where
-  -- columns s0 .. s − 1 of m′ are the factor's
-  abbrev Done : ℕ → Type 0
-  Done s = (r k : ℕ) → s0 ≤ k → k < s → k ≤ r → r < h → getD m′ (rowStart w r + k) nan ≡ factorEntry n a (c + r) (c + k)
+pub stage-same :
+    {n : ℕ} {a : Triangle} {c w s0 e : ℕ} {limit limit′ : ℕ → ℕ} {m : List Float} →
+    ((r s : ℕ) → s ≤ r → c + r < n → s < limit′ r → s < limit r) → ((r s : ℕ) → s ≤ r → c + r < n → limit′ r ≤ s → s < e → limit r ≤ s) →
+    Stage n a c w s0 e limit m → Stage n a c w s0 e limit′ m
+stage-same less more stage =
+    record {
+      finished = λ r s lower high narrow under. stage .finished r s lower high narrow (less r s lower high under);
+      started = λ r s lower high narrow over right. stage .started r s lower high narrow (more r s lower high over right) right;
+      entered = stage .entered;
+    }
 
-  module _ (s : ℕ) (known : Done s) (left : s0 ≤ s) (right : s < e) where
-    -- the entry less all its products
-    solved-less : (r : ℕ) → s ≤ r → r < h → lessSolved w s0 m m′ r s ≡ lessProducts n a (c + s) (c + r) (c + s)
-    solved-less r lower high =
-        products-same (rowAt m′ (rowStart w r + s0)) (λ i. factorEntry n a (c + r) (c + s0 + i)) (rowAt m′ (rowStart w s + s0))
-        (λ i. factorEntry n a (c + s) (c + s0 + i)) (s - s0) (getD m (rowStart w r + s) nan) (λ k few. row r k lower high few)
-        (λ k few. row s k (omega arith) (omega arith) few)
-        ∙ ap (minusProducts (λ i. factorEntry n a (c + r) (c + s0 + i)) (λ i. factorEntry n a (c + s) (c + s0 + i)) (s - s0))
-        (stage .started r s lower (omega arith) (omega arith) left right)
-        ∙ sym (minus-add (λ q. factorEntry n a (c + r) q) (λ q. factorEntry n a (c + s) q) (c + s0) (s - s0) (entry a (c + r) (c + s)))
-        ∙ ap (λ k. lessProducts n a k (c + r) (c + s)) total
-      where
-        total : c + s0 + (s - s0) ≡ c + s
-        total = omega arith
+-- ---- what an entry is next
 
-        row : (r′ k : ℕ) → s ≤ r′ → r′ < h → k < s - s0 → rowAt m′ (rowStart w r′ + s0) k ≡ factorEntry n a (c + r′) (c + s0 + k)
-        row r′ k low′ high′ few =
-            let place : rowStart w r′ + (s0 + k) ≡ rowStart w r′ + s0 + k = omega arith in
-            let column : c + (s0 + k) ≡ c + s0 + k = omega arith in
-            rw (place, column) at (known r′ (s0 + k) (omega arith) (omega arith) (omega arith) high′)
+module _ {n : ℕ} {a : Triangle} {c w s0 e : ℕ} {limit : ℕ → ℕ} {m : List Float} (stage : Stage n a c w s0 e limit m) (s : ℕ) (left : s0 ≤ s) (right : s < e) (narrow : s < w) where
+  -- the entry less all its products
+  panel-less : (r : ℕ) → s ≤ r → c + r < n → limit r ≡ s → s ≤ limit s → lessPanel w s0 m r s ≡ lessProducts n a (c + s) (c + r) (c + s)
+  panel-less r lower high here known =
+      products-same (rowAt m (rowStart w r + s0)) (λ i. factorEntry n a (c + r) (c + s0 + i)) (rowAt m (rowStart w s + s0))
+      (λ i. factorEntry n a (c + s) (c + s0 + i)) (s - s0) (getD m (rowStart w r + s) nan) (λ k few. row r k lower high (omega arith) few)
+      (λ k few. row s k (omega arith) (omega arith) known few)
+      ∙ ap (minusProducts (λ i. factorEntry n a (c + r) (c + s0 + i)) (λ i. factorEntry n a (c + s) (c + s0 + i)) (s - s0))
+      (stage .started r s lower high narrow (omega arith) right)
+      ∙ sym (minus-add (λ q. factorEntry n a (c + r) q) (λ q. factorEntry n a (c + s) q) (c + s0) (s - s0) (entry a (c + r) (c + s)))
+      ∙ ap (λ k. lessProducts n a k (c + r) (c + s)) total
+    where
+      total : c + s0 + (s - s0) ≡ c + s
+      total = omega arith
 
-    solved-pivot : lessSolved w s0 m m′ s s ≡ pivot a (columns n a (c + s)) (c + s)
-    unfolding pivot
-    solved-pivot =
-        solved-less s (omega arith) (omega arith) ∙ sym (row-products n a (c + s) (c + s) (c + s) n (entry a (c + s) (c + s)) (omega arith))
+      row : (r′ k : ℕ) → s ≤ r′ → c + r′ < n → s ≤ limit r′ → k < s - s0 → rowAt m (rowStart w r′ + s0) k ≡ factorEntry n a (c + r′) (c + s0 + k)
+      row r′ k low′ high′ known′ few =
+          let place : rowStart w r′ + (s0 + k) ≡ rowStart w r′ + s0 + k = omega arith in
+          let column : c + (s0 + k) ≡ c + s0 + k = omega arith in
+          rw (place, column) at (stage .finished r′ (s0 + k) (omega arith) high′ (omega arith) (omega arith))
 
-    solved-quotient : (d : Float) (r : ℕ) → s ≤ r → r < h → quotientSolved w s0 m m′ d r s ≡ quotient a (columns n a (c + s)) d (c + s) (c + r)
-    unfolding quotient
-    solved-quotient d r lower high =
-        ap (λ t. div binary64 t d)
-        (solved-less r lower high ∙ sym (row-products n a (c + r) (c + s) (c + s) n (entry a (c + r) (c + s)) (omega arith)))
+  pub panel-pivot : c + s < n → limit s ≡ s → lessPanel w s0 m s s ≡ pivot a (columns n a (c + s)) (c + s)
+  unfolding pivot
+  panel-pivot high here =
+      panel-less s (omega arith) high here (omega arith) ∙ sym (row-products n a (c + s) (c + s) (c + s) n (entry a (c + s) (c + s)) (omega arith))
 
-    solved-root : root (lessSolved w s0 m m′ s s) ≡ root (pivot a (columns n a (c + s)) (c + s))
-    solved-root = ap root solved-pivot
+  pub panel-root : c + s < n → limit s ≡ s → root (lessPanel w s0 m s s) ≡ factorEntry n a (c + s) (c + s)
+  panel-root high here = ap root (panel-pivot high here) ∙ sym (entry-diagonal n a n (c + s) (omega arith))
 
-    solved-below :
-        tabulate (h - s - 1) (λ i. quotientSolved w s0 m m′ (root (lessSolved w s0 m m′ s s)) (s + 1 + i) s)
-        ≡ below (height n) a (c + s) (columns n a (c + s))
-    unfolding below height
-    solved-below =
-        let d : Float = root (pivot a (columns n a (c + s)) (c + s)) in
-        let count : n - (c + s) - 1 ≡ h - s - 1 = omega arith in
-        rw count
-        (tabulate-same (λ i. quotientSolved w s0 m m′ (root (lessSolved w s0 m m′ s s)) (s + 1 + i) s)
-        (λ i. quotient a (columns n a (c + s)) d (c + s) (c + s + 1 + i)) (h - s - 1)
-        (λ i few.
-        let row : c + (s + 1 + i) ≡ c + s + 1 + i = omega arith in
-        ap (λ x. quotientSolved w s0 m m′ x (s + 1 + i) s) solved-root
-        ∙ solved-quotient d (s + 1 + i) (omega arith) (omega arith)
-        ∙ ap (quotient a (columns n a (c + s)) d (c + s)) row))
+  pub panel-quotient :
+      (r : ℕ) → s < r → c + r < n → limit r ≡ s → s < limit s →
+      div binary64 (lessPanel w s0 m r s) (getD m (rowStart w s + s) nan) ≡ factorEntry n a (c + r) (c + s)
+  unfolding quotient
+  panel-quotient r under high here known =
+      ap₂ (div binary64)
+      (panel-less r (omega arith) high here (omega arith) ∙ sym (row-products n a (c + r) (c + s) (c + s) n (entry a (c + r) (c + s)) (omega arith)))
+      (stage .finished s s (omega arith) (omega arith) narrow known ∙ entry-diagonal n a n (c + s) (omega arith))
+      ∙ sym (entry-quotient n a n (c + r) (c + s) (omega arith) (omega arith) high)
 
-    pub solved-judged : judgeSolved c w h s0 m m′ s ≡ judgeColumn n a (c + s)
-    unfolding columnRules
-    solved-judged =
-        ap₂ (λ (p : Float) (xs : List Float). firstRefusal (rule10 (c + s) (judged p) ∷ rule11 (c + s) xs ∷ [])) solved-pivot solved-below
+  -- ---- one column more in some rows
 
-  module _
-      (end : ℕ) (high : end ≤ e)
-      (diagonal : (s : ℕ) → s0 ≤ s → s < end → judged (lessSolved w s0 m m′ s s) ≡ Root (getD m′ (rowStart w s + s) nan))
-      (under :
-      (r s : ℕ) → s0 ≤ s → s < end → s < r → r < h →
-      getD m′ (rowStart w r + s) nan ≡ quotientSolved w s0 m m′ (getD m′ (rowStart w s + s) nan) r s) where
-    done-here : (s : ℕ) → Done s → s0 ≤ s → s < end → (r : ℕ) → s ≤ r → r < h → getD m′ (rowStart w r + s) nan ≡ factorEntry n a (c + r) (c + s)
-    done-here s known left right r lower row =
-        elim (decLt s r) [
-          | yes p ↦
-              under r s left right p row
-              ∙ ap (λ d. quotientSolved w s0 m m′ d r s) root-here
-              ∙ solved-quotient s known left (omega arith) (root (pivot a (columns n a (c + s)) (c + s))) r lower row
-              ∙ sym (entry-quotient n a n (c + r) (c + s) (omega arith) (omega arith) (omega arith))
-          | no p ↦
-              let same : r ≡ s = omega arith in
-              rw same (root-here ∙ sym (entry-diagonal n a n (c + s) (omega arith)))
-        ]
-      where
-        root-here : getD m′ (rowStart w s + s) nan ≡ root (pivot a (columns n a (c + s)) (c + s))
-        root-here =
-            judged-root (lessSolved w s0 m m′ s s) (getD m′ (rowStart w s + s) nan) (diagonal s left right)
-            ∙ solved-root s known left (omega arith)
+  pub stage-next :
+      (from to : ℕ) (limit′ : ℕ → ℕ) (m′ : List Float) → s ≤ from →
+      ((r : ℕ) → from ≤ r → r < to → c + r < n → getD m′ (rowStart w r + s) nan ≡ factorEntry n a (c + r) (c + s)) →
+      ((p : ℕ) → ((r : ℕ) → from ≤ r → r < to → p ≢ rowStart w r + s) → getD m′ p nan ≡ getD m p nan) →
+      ((r : ℕ) → from ≤ r → r < to → limit r ≡ s) → ((r : ℕ) → from ≤ r → r < to → limit′ r ≡ s + 1) →
+      ((r : ℕ) → r < from → limit′ r ≡ limit r) → ((r : ℕ) → to ≤ r → limit′ r ≡ limit r) →
+      Stage n a c w s0 e limit′ m′
+  stage-next from to limit′ m′ under new outside before after above below =
+      record {
+        finished = λ r k lower high narrow′ known. finished r k lower high narrow′ known (decLe from r) (decLt r to);
+        started = λ r k lower high narrow′ over right′. started r k lower high narrow′ over right′ (decLe from r) (decLt r to);
+        entered = λ r k lower high narrow′ over.
+            kept r k lower narrow′ (λ l h z. omega arith) ∙ stage .entered r k lower high narrow′ over;
+      }
+    where
+      kept : (r k : ℕ) → k ≤ r → k < w → (from ≤ r → r < to → k ≢ s) → getD m′ (rowStart w r + k) nan ≡ getD m (rowStart w r + k) nan
+      kept r k lower narrow′ out =
+          outside (rowStart w r + k)
+          (λ r′ l h z.
+          let same : (r ≡ r′) × (k ≡ s) = row-apart w r r′ k s (omega arith) (omega arith) z in
+          out (omega (arith, same .0)) (omega (arith, same .0)) (same .1))
 
-    pub done : (s : ℕ) → s ≤ end → Done s
-    done zero h = λ r k left right lower row. absurd (omega arith)
-    done (suc s) h = λ r k left right lower row.
-        elim (decLt k s) [
-          | yes p ↦ done s (omega arith) r k left p lower row
-          | no p ↦
-              let same : k ≡ s = omega arith in
-              rw same (done-here s (done s (omega arith)) (omega arith) (omega arith) r (omega arith) row)
-        ]
+      finished :
+          (r k : ℕ) → k ≤ r → c + r < n → k < w → k < limit′ r → Dec (from ≤ r) → Dec (r < to) →
+          getD m′ (rowStart w r + k) nan ≡ factorEntry n a (c + r) (c + k)
+      finished r k lower high narrow′ known (yes l) (yes h) =
+          elim (decLt k s) [
+            | yes p ↦
+                kept r k lower narrow′ (λ l h z. omega arith)
+                ∙ stage .finished r k lower high narrow′ (omega (arith, before r l h))
+            | no p ↦ let same : k ≡ s = omega (arith, after r l h) in rw same (new r l h high)
+          ]
+      finished r k lower high narrow′ known (no l) d =
+          kept r k lower narrow′ (λ l′ h z. l l′) ∙ stage .finished r k lower high narrow′ (omega (arith, above r (omega arith)))
+      finished r k lower high narrow′ known (yes l) (no h) =
+          kept r k lower narrow′ (λ l h′ z. h h′) ∙ stage .finished r k lower high narrow′ (omega (arith, below r (omega arith)))
+
+      started :
+          (r k : ℕ) → k ≤ r → c + r < n → k < w → limit′ r ≤ k → k < e → Dec (from ≤ r) → Dec (r < to) →
+          getD m′ (rowStart w r + k) nan ≡ lessProducts n a (c + s0) (c + r) (c + k)
+      started r k lower high narrow′ over right′ (yes l) (yes h) =
+          kept r k lower narrow′ (λ l′ h′ z. omega (arith, after r l h))
+          ∙ stage .started r k lower high narrow′ (omega (arith, before r l h, after r l h)) right′
+      started r k lower high narrow′ over right′ (no l) d =
+          kept r k lower narrow′ (λ l′ h z. l l′) ∙ stage .started r k lower high narrow′ (omega (arith, above r (omega arith))) right′
+      started r k lower high narrow′ over right′ (yes l) (no h) =
+          kept r k lower narrow′ (λ l h′ z. h h′) ∙ stage .started r k lower high narrow′ (omega (arith, below r (omega arith))) right′
 
 -- ---- the own products of a panel
 
 pub stage-updated :
-    (n : ℕ) (a : Triangle) (c w h s0 g : ℕ) (m m′ : List Float) → c + h ≡ n → s0 + g ≤ w → w ≤ h → Stage n a c w s0 s0 s0 m →
-    PanelUpdated 0 w h s0 g (sourceAt m 0 w (h - h)) s0 m m′ → Stage n a c w s0 (s0 + g) s0 m′
+    (n : ℕ) (a : Triangle) (c w h s0 g : ℕ) (m m′ : List Float) → c + h ≡ n → s0 + g ≤ w → w ≤ h → Stage n a c w s0 s0 (allRows s0) m →
+    PanelUpdated 0 w h s0 g (sourceAt m 0 w (h - h)) s0 m m′ → Stage n a c w s0 (s0 + g) (allRows s0) m′
 stage-updated n a c w h s0 g m m′ order wide tall stage update =
     record {
       finished = λ r s lower high narrow before.
@@ -176,10 +170,12 @@ stage-updated n a c w h s0 g m m′ order wide tall stage update =
         let place : 0 + rowStart w (h - h + r) + k ≡ rowStart w r + k = omega (arith, ap (rowStart w) row) in
         rw place (stage .finished r k (omega arith) high (omega arith) few)
 
-pub stage-all : (n : ℕ) (a : Triangle) (c w s0 e : ℕ) (m : List Float) → Stage n a c w s0 e e m → Stage n a c w e e e m
-stage-all n a c w s0 e m stage =
+-- a panel with all rows finished
+pub stage-all :
+    (n : ℕ) (a : Triangle) (c w h s0 e : ℕ) (m : List Float) → c + h ≡ n → Stage n a c w s0 e (topRows s0 e h) m → Stage n a c w e e (allRows e) m
+stage-all n a c w h s0 e m order stage =
     record {
-      finished = stage .finished;
-      started = λ r s lower high narrow low up. absurd (omega arith);
-      entered = stage .entered;
+      finished = λ r s lower high narrow under. stage .finished r s lower high narrow (rw (rows-in 0 h e (allRows s0) r (omega arith) (omega arith)) under);
+      started = λ r s lower high narrow over right. absurd (omega arith);
+      entered = λ r s lower high narrow over. stage .entered r s lower high narrow over;
     }

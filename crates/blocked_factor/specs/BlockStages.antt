@@ -1,14 +1,16 @@
--- How far a block column of a matrix `a` of order n is worked on. It begins with column c and its memory at place 0.
+-- How far a block column of a matrix `a` of order n is worked on, and how it is judged. It begins with column c and its memory at place 0.
 use Prim.Native.Nat.{ℕ, _+_, _≤_, _<_}
 use mathlib.Core.Path.{_≡_}
+use mathlib.Core.Bool.{true, cond, _&&_}
 use mathlib.Core.List.{List}
-use lib.Dec.{T}
+use lib.Dec.{leb, ltb}
 use lib.ListN.{length, getD}
 use lib.Ieee.{Float, nan}
-use Rattle.calls.specs.declared.CallResult.{CallResult}
+use Rattle.binary64.specs.Judged.{judged}
+use Rattle.calls.specs.declared.Verdict.{Verdict}
 use Rattle.calls.specs.Triangles.{Triangle, entry, height}
-use Rattle.calls.specs.Arithmetic.{minusProducts, cholesky}
-use Rattle.calls.specs.Refusals.{success, accepted, lowestRefusal, columnRules}
+use Rattle.calls.specs.Arithmetic.{minusProducts, pivot, cholesky}
+use Rattle.calls.specs.Refusals.{success, lowestRefusal, columnRules, columnVerdict}
 use Rattle.blocked_factor.specs.BlockColumns.{rowStart}
 
 -- an entry of the factor
@@ -19,33 +21,91 @@ factorEntry n a i j = entry (cholesky (height n) a n) i j
 abbrev pub lessProducts : ℕ → Triangle → ℕ → ℕ → ℕ → Float
 lessProducts n a k i j = minusProducts (λ q. factorEntry n a i q) (λ q. factorEntry n a j q) k (entry a i j)
 
-abbrev pub judgeColumn : ℕ → Triangle → ℕ → CallResult
-judgeColumn n a = λ j. columnRules (height n) a (cholesky (height n) a j) j
+abbrev pub judgeColumn : ℕ → Triangle → ℕ → Verdict
+judgeColumn n a = λ j. columnVerdict (height n) a (cholesky (height n) a j) j
 
--- Columns before j are finished, those before e have the products with columns before c + s0 subtracted, and the rest those before c.
-pub record Stage (n : ℕ) (a : Triangle) (c w s0 e j : ℕ) (m : List Float) : Type 0 where
-  pub finished : (r s : ℕ) → s ≤ r → c + r < n → s < w → s < j → getD m (rowStart w r + s) nan ≡ factorEntry n a (c + r) (c + s)
+-- what a column is judged to where the entries below its pivot are finite
+abbrev pub judgePivot : ℕ → Triangle → ℕ → Verdict
+judgePivot n a = λ j. columnRules j (judged (pivot a (cholesky (height n) a j) j)) true
+
+-- Row r is finished in its columns before `limit r`. Its other columns before e have the products with columns before c + s0 subtracted, and the
+-- rest those before c.
+pub record Stage (n : ℕ) (a : Triangle) (c w s0 e : ℕ) (limit : ℕ → ℕ) (m : List Float) : Type 0 where
+  pub finished : (r s : ℕ) → s ≤ r → c + r < n → s < w → s < limit r → getD m (rowStart w r + s) nan ≡ factorEntry n a (c + r) (c + s)
   pub started :
-      (r s : ℕ) → s ≤ r → c + r < n → s < w → j ≤ s → s < e → getD m (rowStart w r + s) nan ≡ lessProducts n a (c + s0) (c + r) (c + s)
+      (r s : ℕ) → s ≤ r → c + r < n → s < w → limit r ≤ s → s < e → getD m (rowStart w r + s) nan ≡ lessProducts n a (c + s0) (c + r) (c + s)
   pub entered : (r s : ℕ) → s ≤ r → c + r < n → s < w → e ≤ s → getD m (rowStart w r + s) nan ≡ lessProducts n a c (c + r) (c + s)
 
--- The lowest refused column so far, and the stage where there is none.
-pub record Judged (n : ℕ) (a : Triangle) (c w s0 e j : ℕ) (answer : CallResult) (m′ : List Float) : Type 0 where
-  pub verdict : answer ≡ lowestRefusal (judgeColumn n a) (c + j)
-  pub stage : T (accepted answer) → Stage n a c w s0 e j m′
+-- the same limit for all rows, and another one for rows from `from` to `to` − 1
+abbrev pub allRows : ℕ → ℕ → ℕ
+allRows s = λ r. s
 
--- Columns s0 .. e − 1 are finished up to the first that is refused. What is past the block column of h rows is as it was.
-pub record PanelFinished (c w h s0 e : ℕ) (m : List Float) (answer : CallResult) (m′ : List Float) : Type 0 where
+abbrev pub rowsTo : ℕ → ℕ → ℕ → (ℕ → ℕ) → ℕ → ℕ
+rowsTo from to s limit = λ r. cond (leb from r && ltb r to) s (limit r)
+
+-- rows before `to` of a panel of columns s0 .. e − 1 are finished
+abbrev pub topRows : ℕ → ℕ → ℕ → ℕ → ℕ
+topRows s0 e to = rowsTo 0 to e (allRows s0)
+
+-- Rows from `from` to `to` − 1, which are below columns s0 .. end − 1 and have none of them finished, are finished in these, given the rows of
+-- those columns' diagonals. What is past these rows is as it was.
+pub record RowsFinished (w s0 end from to : ℕ) (m m′ : List Float) : Type 0 where
+  pub kept : length m′ ≡ length m
+  pub beyond : (p : ℕ) → rowStart w to ≤ p → getD m′ p nan ≡ getD m p nan
+  pub stage :
+      (n : ℕ) (a : Triangle) (c e : ℕ) (limit : ℕ → ℕ) → c + to ≤ n → end ≤ e → ((k : ℕ) → s0 ≤ k → k < end → k < limit k) →
+      ((r : ℕ) → from ≤ r → r < to → limit r ≡ s0) → Stage n a c w s0 e limit m → Stage n a c w s0 e (rowsTo from to end limit) m′
+
+-- The diagonal entry of column s, which is column c + s of the matrix, is finished, given its row. `before` is the first refusal by a pivot of an
+-- earlier column, or success, and `answer` that of a column up to this one.
+pub record DiagonalFinished (c w s0 s : ℕ) (before : Verdict) (m : List Float) (answer : Verdict) (m′ : List Float) : Type 0 where
+  pub kept : length m′ ≡ length m
+  pub beyond : (p : ℕ) → rowStart w (s + 1) ≤ p → getD m′ p nan ≡ getD m p nan
+  pub stage :
+      (n : ℕ) (a : Triangle) (e : ℕ) (limit : ℕ → ℕ) → c + s < n → s < e → limit s ≡ s → Stage n a c w s0 e limit m →
+      Stage n a c w s0 e (rowsTo s (s + 1) (s + 1) limit) m′
+  pub verdict :
+      (n : ℕ) (a : Triangle) (e : ℕ) (limit : ℕ → ℕ) → c + s < n → s < e → limit s ≡ s → Stage n a c w s0 e limit m →
+      before ≡ lowestRefusal (judgePivot n a) (c + s) → answer ≡ lowestRefusal (judgePivot n a) (c + (s + 1))
+
+-- Rows before `to` of the panel of columns s0 .. e − 1 are finished, from row s0 on; the columns of their diagonals are judged by their pivots.
+pub record TriangleFinished (c w s0 e to : ℕ) (before : Verdict) (m : List Float) (answer : Verdict) (m′ : List Float) : Type 0 where
+  pub kept : length m′ ≡ length m
+  pub beyond : (p : ℕ) → rowStart w to ≤ p → getD m′ p nan ≡ getD m p nan
+  pub stage :
+      (n : ℕ) (a : Triangle) → c + to ≤ n → Stage n a c w s0 e (allRows s0) m → Stage n a c w s0 e (topRows s0 e to) m′
+  pub verdict :
+      (n : ℕ) (a : Triangle) → c + to ≤ n → Stage n a c w s0 e (allRows s0) m → before ≡ lowestRefusal (judgePivot n a) (c + s0) →
+      answer ≡ lowestRefusal (judgePivot n a) (c + to)
+
+-- Rows from `from` to `to` − 1 of a panel are finished after those above them.
+pub record BelowFinished (w s0 e from to : ℕ) (m m′ : List Float) : Type 0 where
+  pub kept : length m′ ≡ length m
+  pub beyond : (p : ℕ) → rowStart w to ≤ p → getD m′ p nan ≡ getD m p nan
+  pub stage :
+      (n : ℕ) (a : Triangle) (c : ℕ) → c + to ≤ n → Stage n a c w s0 e (topRows s0 e from) m → Stage n a c w s0 e (topRows s0 e to) m′
+
+-- Columns from `from` to `to` − 1 of a block column of h rows are finished, and judged by their pivots.
+pub record ColumnsFinished (c w h from to : ℕ) (before : Verdict) (m : List Float) (answer : Verdict) (m′ : List Float) : Type 0 where
   pub kept : length m′ ≡ length m
   pub beyond : (p : ℕ) → rowStart w h ≤ p → getD m′ p nan ≡ getD m p nan
-  pub judged :
-      (n : ℕ) (a : Triangle) → c + h ≡ n → Stage n a c w s0 e s0 m → lowestRefusal (judgeColumn n a) (c + s0) ≡ success →
-      Judged n a c w s0 e e answer m′
+  pub stage :
+      (n : ℕ) (a : Triangle) → c + h ≡ n → Stage n a c w from from (allRows from) m → Stage n a c w to to (allRows to) m′
+  pub verdict :
+      (n : ℕ) (a : Triangle) → c + h ≡ n → Stage n a c w from from (allRows from) m → before ≡ lowestRefusal (judgePivot n a) (c + from) →
+      answer ≡ lowestRefusal (judgePivot n a) (c + to)
 
--- The same from columns that have the products before c subtracted.
-pub record ColumnsFactored (c w h from to : ℕ) (m : List Float) (answer : CallResult) (m′ : List Float) : Type 0 where
+-- A finished block column is judged, given the first refusal by a pivot.
+abbrev pub BlockVerdict : ℕ → ℕ → ℕ → Verdict → List Float → Verdict → Type 0
+BlockVerdict c w h first m answer =
+    (n : ℕ) (a : Triangle) → c + h ≡ n → Stage n a c w w w (allRows w) m → lowestRefusal (judgeColumn n a) c ≡ success →
+    first ≡ lowestRefusal (judgePivot n a) (c + w) → answer ≡ lowestRefusal (judgeColumn n a) (c + w)
+
+-- A block column holds what `cholesky` gives, and is judged.
+pub record BlockColumnFactored (c w h : ℕ) (m : List Float) (answer : Verdict) (m′ : List Float) : Type 0 where
   pub kept : length m′ ≡ length m
   pub beyond : (p : ℕ) → rowStart w h ≤ p → getD m′ p nan ≡ getD m p nan
-  pub judged :
-      (n : ℕ) (a : Triangle) → c + h ≡ n → Stage n a c w from from from m → lowestRefusal (judgeColumn n a) (c + from) ≡ success →
-      Judged n a c w to to to answer m′
+  pub stage : (n : ℕ) (a : Triangle) → c + h ≡ n → Stage n a c w 0 0 (allRows 0) m → Stage n a c w w w (allRows w) m′
+  pub verdict :
+      (n : ℕ) (a : Triangle) → c + h ≡ n → Stage n a c w 0 0 (allRows 0) m → lowestRefusal (judgeColumn n a) c ≡ success →
+      answer ≡ lowestRefusal (judgeColumn n a) (c + w)

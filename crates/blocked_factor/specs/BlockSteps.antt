@@ -1,19 +1,19 @@
 -- What the steps of the blocked factor promise of the whole matrix memory.
 use Prim.Native.Nat.{ℕ, _+_, _-_, _≤_, _<_}
 use mathlib.Core.Path.{_≡_}
-use mathlib.Core.Bool.{false}
+use mathlib.Core.Bool.{true, false}
 use mathlib.Core.List.{List}
-use lib.Dec.{T}
 use lib.ListN.{length, getD}
 use lib.Ieee.{Float, nan}
 use Rattle.shape.specs.Bounds.{maxOrder, maxBlock}
 use Rattle.shape.specs.Places.{triangle, blockOf, blockStart, width, blockedPlace, blockWork}
 use Rattle.shape.specs.Layouts.{Entry}
-use Rattle.calls.specs.declared.CallResult.{CallResult}
+use Rattle.calls.specs.declared.Verdict.{Verdict}
 use Rattle.calls.specs.Triangles.{Triangle, entry}
 use Rattle.calls.specs.Refusals.{success, accepted, lowestRefusal}
 use Rattle.calls.specs.declared.Layout.the-variants.{Blocked}
 use Rattle.calls.specs.Calls.{finished}
+use Rattle.blocked_factor.specs.BlockColumns.{rowStart}
 use Rattle.blocked_factor.specs.BlockStages.{factorEntry, judgeColumn}
 
 -- column c begins a block column of a matrix of order n in a memory of its length
@@ -25,10 +25,6 @@ pub record BlockAt (n b c len : ℕ) : Type 0 where
   pub first : blockOf b c ≡ c
   pub size : len ≡ triangle n
 
--- the first places of a work memory hold the values from place `start` on
-pub record Saved (start size : ℕ) (m work′ : List Float) : Type 0 where
-  pub value : (k : ℕ) → k < size → getD work′ k nan ≡ getD m (start + k) nan
-
 -- row c + r of the matrix
 abbrev pub rowOf : ℕ → ℕ → ℕ → List Float → ℕ → ℕ → Float
 rowOf n b c m r = λ k. getD m (blockedPlace n b (c + r) k) nan
@@ -38,27 +34,26 @@ pub record FactoredTo (n b : ℕ) (a : Triangle) (c : ℕ) (m : List Float) : Ty
   pub finished : (i j : ℕ) → Entry n i j → j < c → getD m (blockedPlace n b i j) nan ≡ factorEntry n a i j
   pub entries : (i j : ℕ) → Entry n i j → c ≤ j → getD m (blockedPlace n b i j) nan ≡ entry a i j
 
--- The block column at c is judged, and finished where it is accepted.
-pub record BlockJudged (n b c : ℕ) (m : List Float) (answer : CallResult) (m′ : List Float) : Type 0 where
-  pub verdict :
-      (a : Triangle) → FactoredTo n b a c m → lowestRefusal (judgeColumn n a) c ≡ success →
-      answer ≡ lowestRefusal (judgeColumn n a) (c + width n b c)
-  pub finished :
-      (a : Triangle) → FactoredTo n b a c m → lowestRefusal (judgeColumn n a) c ≡ success → T (accepted answer) →
-      FactoredTo n b a (c + width n b c) m′
+-- the verdict of the columns up to the end of the block column at c, those before it being accepted
+abbrev pub BlockJudged : ℕ → ℕ → ℕ → List Float → Verdict → Type 0
+BlockJudged n b c m answer =
+    (a : Triangle) → FactoredTo n b a c m → lowestRefusal (judgeColumn n a) c ≡ success →
+    answer ≡ lowestRefusal (judgeColumn n a) (c + width n b c)
 
--- The same, and places before it and past it are as they were.
-pub record BlockFactored (n b c : ℕ) (m : List Float) (answer : CallResult) (m′ : List Float) : Type 0 where
+-- The block column at c is finished, and judged. Places before it and past it are as they were.
+pub record BlockFactored (n b c : ℕ) (m : List Float) (answer : Verdict) (m′ : List Float) : Type 0 where
   pub kept : length m′ ≡ length m
   pub before : (p : ℕ) → p < blockStart n c → getD m′ p nan ≡ getD m p nan
-  pub after : (p : ℕ) → blockStart n (c + width n b c) ≤ p → getD m′ p nan ≡ getD m p nan
-  pub judged : BlockJudged n b c m answer m′
+  pub after : (p : ℕ) → blockStart n c + rowStart (width n b c) (n - c) ≤ p → getD m′ p nan ≡ getD m p nan
+  pub finished : (a : Triangle) → FactoredTo n b a c m → FactoredTo n b a (c + width n b c) m′
+  pub judged : BlockJudged n b c m answer
 
--- It is judged, and all memory is as it was where a column is refused.
-pub record BlockDone (n b c : ℕ) (m : List Float) (answer : CallResult) (m′ : List Float) : Type 0 where
+-- It is judged, and finished where no column is refused; else all memory is as it was.
+pub record BlockDone (n b c : ℕ) (m : List Float) (answer : Verdict) (m′ : List Float) : Type 0 where
   pub kept : length m′ ≡ length m
   pub restored : accepted answer ≡ false → m′ ≡ m
-  pub judged : BlockJudged n b c m answer m′
+  pub finished : accepted answer ≡ true → (a : Triangle) → FactoredTo n b a c m → FactoredTo n b a (c + width n b c) m′
+  pub judged : BlockJudged n b c m answer
 
 -- a matrix of order n and work memory of the needed lengths
 pub record Sized (n b matrixLength workLength : ℕ) : Type 0 where
@@ -69,8 +64,7 @@ pub record Sized (n b matrixLength workLength : ℕ) : Type 0 where
   pub work : workLength ≡ blockWork n b
 
 -- Every block column before that of the lowest refused column is finished, and the others hold the matrix's entries.
-pub record BlocksDone (n b : ℕ) (m : List Float) (answer : CallResult) (m′ : List Float) : Type 0 where
+pub record BlocksDone (n b : ℕ) (m : List Float) (answer : Verdict) (m′ : List Float) : Type 0 where
   pub kept : length m′ ≡ length m
   pub verdict : (a : Triangle) → FactoredTo n b a 0 m → answer ≡ lowestRefusal (judgeColumn n a) n
   pub columns : (a : Triangle) → FactoredTo n b a 0 m → FactoredTo n b a (finished Blocked n b answer) m′
-  pub bound : (a : Triangle) → FactoredTo n b a 0 m → finished Blocked n b answer ≤ n

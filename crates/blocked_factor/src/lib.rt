@@ -2,45 +2,46 @@
 ghost use mathlib.Core.Path.{_≡_};
 ghost use Prim.Native.Nat.{ℕ, _+_, _-_, _*_, _≤_, _<_};
 ghost use lib.ListN.{length, getD, replicate};
-ghost use lib.Ieee.{nan, binary64, div};
+ghost use lib.Ieee.{nan};
 ghost use Rattle.binary64.specs.Kinds.{zero64};
 ghost use Rattle.shape.specs.Bounds.{maxOrder};
 ghost use Rattle.shape.specs.Places.{blockStart, width, blockWork};
-ghost use Rattle.calls.specs.Arithmetic.{minusProducts};
+ghost use Rattle.calls.specs.Refusals.{success};
 ghost use Rattle.calls.specs.Calls.{DoneAs, factorize};
-ghost use Rattle.kernels.specs.Kernels.{Filled};
-ghost use Rattle.blocked_factor.specs.BlockColumns.{rowStart, rowAt, ColumnFinished, RowsFinished, TopFinished, RowsSolved, columnFinite, LowestRefused, PanelUpdated};
-ghost use Rattle.blocked_factor.specs.BlockStages.{PanelFinished, ColumnsFactored};
-ghost use Rattle.blocked_factor.specs.BlockSteps.{BlockAt, BlockFactored, BlockDone, Saved, Sized, BlocksDone, rowOf};
+ghost use Rattle.blocked_factor.specs.BlockColumns.{rowStart, PanelUpdated, ColumnDivided, rootOf, columnFinite, LowestOverflow};
+ghost use Rattle.blocked_factor.specs.BlockStages.{RowsFinished, DiagonalFinished, TriangleFinished, BelowFinished, ColumnsFinished, BlockVerdict, BlockColumnFactored};
+ghost use Rattle.blocked_factor.specs.BlockSteps.{BlockAt, BlockFactored, BlockDone, Sized, BlocksDone, rowOf};
 
-mod kernel;
 mod update;
 
 use binary64::Pivot;
 use calls::CallResult;
 use calls::Layout;
-use kernel::minus_products;
-use kernels::divide8;
-use kernels::gather8;
+use calls::Verdict;
+use kernels::copy_part;
+use kernels::divide_entry;
+use kernels::minus_products;
+use kernels::quotients8;
 use kernels::scatter8;
-use kernels::subtract_rising8;
 use shape::Shape;
 use shape::least;
 use update::BlockColumn;
 use update::update_block;
 use update::update_panel;
 
-// Row r of column s: less its products with columns s0 .. s − 1, and divided by the root. True where it is finite.
-fn finish_row(part: &mut [f64], width: usize, r: usize, s0: usize, s: usize, root: f64) -> bool
-    requires { ⌜ (s0 ≤ s) × (s < width) × (s < r) × (r < maxOrder) × (rowStart width (r + 1) ≤ length (now part)) ⌝ }
-    ensures { λ finite. ⌜ RowsFinished width r (r + 1) s0 s root (now (part .entry)) finite (now (part .exit)) ⌝ }
+// Row r in columns s0 .. end − 1 of a panel, whose diagonals are finished: each entry less its products with the panel's columns before it, and divided
+// by its column's diagonal.
+fn finish_row(part: &mut [f64], width: usize, r: usize, s0: usize, end: usize)
+    requires { ⌜ (s0 ≤ end) × (end ≤ width) × (end ≤ r) × (r < maxOrder) × (rowStart width (r + 1) ≤ length (now part)) ⌝ }
+    ensures { λ _. ⌜ RowsFinished width s0 end r (r + 1) (now (part .entry)) (now (part .exit)) ⌝ }
 {
     let x = Shape::place_in_block(width, r, 0) + s0;
-    let y = Shape::place_in_block(width, s, 0) + s0;
-    let count = s - s0;
-    let quotient = minus_products(part, x, y, count, part[x + count]) / root;
-    part[x + count] = quotient;
-    binary64::is_finite(quotient)
+    let mut s = s0;
+    while s < end {
+        let y = Shape::place_in_block(width, s, 0) + s0;
+        divide_entry(part, x, y, s - s0);
+        s += 1;
+    }
 }
 
 // The places of column s in the eight rows from r on.
@@ -59,228 +60,101 @@ fn row_places8(width: usize, r: usize, s: usize) -> [usize; 8]
     places
 }
 
-// Eight entries, each count places past its place `at`, less the products of the values there with those from y on, divided by the root.
-fn quotients8(part: &[f64], at: [usize; 8], y: usize, count: usize, root: f64) -> [f64; 8]
-    requires { ⌜ y + count ≤ length (now part) ⌝ }
-    requires { ⌜ ((k : ℕ) → k < 8 → getD at k 0 + count < length (now part)) ⌝ }
-    ensures { λ q.
-        ⌜ (length q ≡ 8)
-        × ((k : ℕ) → k < 8 →
-        getD q k nan
-        ≡ div binary64
-        (minusProducts (rowAt (now (part .entry)) (getD at k 0)) (rowAt (now (part .entry)) y) count
-        (getD (now (part .entry)) (getD at k 0 + count) nan))
-        root) ⌝ }
-{
-    let start = gather8(part, at, count);
-    let reduced = subtract_rising8(start, part, at, &part[y..y + count]);
-    divide8(reduced, root)
-}
-
-// As `finish_row`, for the eight rows from r on at once, whose places of column s0 are given.
-fn finish_rows8(
-    part: &mut [f64],
-    at: [usize; 8],
-    width: usize,
-    r: usize,
-    s0: usize,
-    s: usize,
-    root: f64,
-) -> bool
+// Column s in eight rows, whose places of column s0 are given.
+fn divide_rows8(part: &mut [f64], at: [usize; 8], width: usize, r: usize, s0: usize, s: usize)
     requires { ⌜ (s0 ≤ s) × (s < width) × (s < r) × (r + 8 ≤ maxOrder) × (rowStart width (r + 8) ≤ length (now part)) ⌝ }
     requires { ⌜ ((k : ℕ) → k < 8 → getD at k 0 ≡ rowStart width (r + k) + s0) ⌝ }
-    ensures { λ finite. ⌜ RowsFinished width r (r + 8) s0 s root (now (part .entry)) finite (now (part .exit)) ⌝ }
+    ensures { λ _. ⌜ ColumnDivided width s0 s r (r + 8) (now (part .entry)) (now (part .exit)) ⌝ }
 {
     let y = Shape::place_in_block(width, s, 0) + s0;
     let count = s - s0;
-    let quotients = quotients8(part, at, y, count, root);
+    let quotients = quotients8(part, at, y, count, part[y + count]);
     scatter8(part, at, count, quotients);
-    calls::all_finite(&quotients)
 }
 
-// The rows under the diagonal of column s, eight at a time. True where all are finite.
-fn finish_rows(part: &mut [f64], width: usize, rows: usize, s0: usize, s: usize, root: f64) -> bool
-    requires { ⌜ (s0 ≤ s) × (s < width) × (s < rows) × (rows ≤ maxOrder) × (rowStart width rows ≤ length (now part)) ⌝ }
-    ensures { λ r. ⌜ RowsFinished width (s + 1) rows s0 s root (now (part .entry)) r (now (part .exit)) ⌝ }
+// As `finish_row`, for the eight rows from r on at once.
+fn finish_rows8(part: &mut [f64], width: usize, r: usize, s0: usize, end: usize)
+    requires { ⌜ (s0 ≤ end) × (end ≤ width) × (end ≤ r) × (r + 8 ≤ maxOrder) × (rowStart width (r + 8) ≤ length (now part)) ⌝ }
+    ensures { λ _. ⌜ RowsFinished width s0 end r (r + 8) (now (part .entry)) (now (part .exit)) ⌝ }
 {
-    let mut finite = true;
-    let mut r = s + 1;
+    let at = row_places8(width, r, s0);
+    let mut s = s0;
+    while s < end {
+        divide_rows8(part, at, width, r, s0, s);
+        s += 1;
+    }
+}
+
+// The value of the diagonal: the root, whatever the pivot is.
+fn diagonal_of(pivot: Pivot) -> f64
+    ensures { λ r. ⌜ r ≡ rootOf pivot ⌝ }
+{
+    match pivot {
+        Pivot::Root(root) => root,
+        Pivot::Refused(value) => binary64::square_root(value),
+    }
+}
+
+// The diagonal of column s, which is column c + s of the matrix, after its row. The first refusal by a pivot is kept.
+fn finish_diagonal(
+    part: &mut [f64],
+    c: usize,
+    width: usize,
+    s0: usize,
+    s: usize,
+    before: Verdict,
+) -> Verdict
+    requires { ⌜ (s0 ≤ s) × (s < width) × (c + s < maxOrder) × (rowStart width (s + 1) ≤ length (now part)) ⌝ }
+    ensures { λ r. ⌜ DiagonalFinished c width s0 s before (now (part .entry)) r (now (part .exit)) ⌝ }
+{
+    let y = Shape::place_in_block(width, s, 0) + s0;
+    let count = s - s0;
+    let pivot = binary64::judge(minus_products(part, y, y, count, part[y + count]));
+    part[y + count] = diagonal_of(pivot);
+    if calls::accepted(before) {
+        return checks::judge_column(c + s, pivot, true);
+    }
+    before
+}
+
+// The rows with the diagonals of columns s0 .. e − 1, one after another.
+fn finish_triangle(
+    part: &mut [f64],
+    c: usize,
+    width: usize,
+    s0: usize,
+    e: usize,
+    before: Verdict,
+) -> Verdict
+    requires { ⌜ (s0 ≤ e) × (e ≤ width) × (c + e ≤ maxOrder) × (rowStart width e ≤ length (now part)) ⌝ }
+    ensures { λ r. ⌜ TriangleFinished c width s0 e e before (now (part .entry)) r (now (part .exit)) ⌝ }
+{
+    let mut verdict = before;
+    let mut s = s0;
+    while s < e {
+        finish_row(part, width, s, s0, s);
+        let next = finish_diagonal(part, c, width, s0, s, verdict);
+        verdict = next;
+        s += 1;
+    }
+    verdict
+}
+
+// The rows below columns s0 .. e − 1, eight at a time and then the rest.
+fn finish_below(part: &mut [f64], width: usize, rows: usize, s0: usize, e: usize)
+    requires { ⌜ (s0 ≤ e) × (e ≤ width) × (e ≤ rows) × (rows ≤ maxOrder) × (rowStart width rows ≤ length (now part)) ⌝ }
+    ensures { λ _. ⌜ BelowFinished width s0 e e rows (now (part .entry)) (now (part .exit)) ⌝ }
+{
+    let mut r = e;
     while r < rows {
         if 8 <= rows - r {
-            let at = row_places8(width, r, s0);
-            let eight = finish_rows8(part, at, width, r, s0, s, root);
-            finite = finite & eight;
+            finish_rows8(part, width, r, s0, e);
             r += 8;
         } else {
-            let one = finish_row(part, width, r, s0, s, root);
-            finite = finite & one;
+            finish_row(part, width, r, s0, e);
             r += 1;
         }
     }
-    finite
-}
-
-// Column s, which is column c + s of the matrix: columns 0 .. s0 − 1 of the block column are subtracted from it already. The diagonal is set last.
-fn finish_column(
-    part: &mut [f64],
-    c: usize,
-    width: usize,
-    rows: usize,
-    s0: usize,
-    s: usize,
-) -> CallResult
-    requires { ⌜ (s0 ≤ s) × (s < width) × (s < rows) × (c + rows ≤ maxOrder) × (rowStart width rows ≤ length (now part)) ⌝ }
-    ensures { λ r. ⌜ ColumnFinished c width rows s0 s (now (part .entry)) r (now (part .exit)) ⌝ }
-{
-    let y = Shape::place_in_block(width, s, 0) + s0;
-    let count = s - s0;
-    let pivot = minus_products(part, y, y, count, part[y + count]);
-    match binary64::judge(pivot) {
-        Pivot::Refused(value) => CallResult {
-            code: 10,
-            place: c + s,
-            value,
-        },
-        Pivot::Root(root) => {
-            if finish_rows(part, width, rows, s0, s, root) {
-                part[y + count] = root;
-                CallResult {
-                    code: 0,
-                    place: 0,
-                    value: 0.0,
-                }
-            } else {
-                CallResult {
-                    code: 11,
-                    place: c + s,
-                    value: 0.0,
-                }
-            }
-        }
-    }
-}
-
-// How far the columns of a panel are finished in its first rows: before column `end`, whose refusal is the result, or all of them.
-struct Top {
-    end: usize,
-    result: CallResult,
-}
-
-// The rows before `top` of columns s0 .. e − 1, up to the first column that is refused in these rows.
-fn finish_top(part: &mut [f64], c: usize, width: usize, top: usize, s0: usize, e: usize) -> Top
-    requires { ⌜ (s0 ≤ e) × (e ≤ width) × (e ≤ top) × (c + top ≤ maxOrder) × (rowStart width top ≤ length (now part)) ⌝ }
-    ensures { λ r. ⌜ TopFinished c width top s0 e (now (part .entry)) (r .end) (r .result) (now (part .exit)) ⌝ }
-{
-    let mut s = s0;
-    while s < e {
-        let result = finish_column(part, c, width, top, s0, s);
-        if !calls::accepted(result) {
-            return Top { end: s, result };
-        }
-        s += 1;
-    }
-    let result = calls::refusal(0, 0);
-    Top { end: e, result }
-}
-
-// The eight rows from r on, which are below columns s0 .. end − 1, in all of these. True where all are finite.
-fn finish_columns8(part: &mut [f64], width: usize, r: usize, s0: usize, end: usize) -> bool
-    requires { ⌜ (s0 ≤ end) × (end ≤ width) × (end ≤ r) × (r + 8 ≤ maxOrder) × (rowStart width (r + 8) ≤ length (now part)) ⌝ }
-    ensures { λ finite. ⌜ RowsSolved width r (r + 8) s0 end (now (part .entry)) finite (now (part .exit)) ⌝ }
-{
-    let at = row_places8(width, r, s0);
-    let mut finite = true;
-    let mut s = s0;
-    while s < end {
-        let root = part[Shape::place_in_block(width, s, 0) + s];
-        let column = finish_rows8(part, at, width, r, s0, s, root);
-        finite = finite & column;
-        s += 1;
-    }
-    finite
-}
-
-// The rows from `top` on in columns s0 .. end − 1, eight rows at a time, so that their places are found once for all columns. True where all are
-// finite.
-fn finish_below(
-    part: &mut [f64],
-    width: usize,
-    top: usize,
-    eights: usize,
-    s0: usize,
-    end: usize,
-) -> bool
-    requires { ⌜ (s0 ≤ end) × (end ≤ width) × (end ≤ top) × (top + 8 * eights ≤ maxOrder) × (rowStart width (top + 8 * eights) ≤ length (now part)) ⌝ }
-    ensures { λ finite. ⌜ RowsSolved width top (top + 8 * eights) s0 end (now (part .entry)) finite (now (part .exit)) ⌝ }
-{
-    let mut finite = true;
-    let mut q = 0;
-    while q < eights {
-        let eight = finish_columns8(part, width, top + 8 * q, s0, end);
-        finite = finite & eight;
-        q += 1;
-    }
-    finite
-}
-
-// Whether the rows from `from` to `to` − 1 of column s are finite.
-fn column_finite(part: &[f64], width: usize, from: usize, to: usize, s: usize) -> bool
-    requires { ⌜ (s < width) × (s < from) × (from ≤ to) × (to ≤ maxOrder) × (rowStart width to ≤ length (now part)) ⌝ }
-    ensures { λ finite. ⌜ finite ≡ columnFinite width from to (now (part .entry)) s ⌝ }
-{
-    let mut finite = true;
-    let mut r = from;
-    while r < to {
-        let p = Shape::place_in_block(width, r, 0) + s;
-        finite = finite & binary64::is_finite(part[p]);
-        r += 1;
-    }
-    finite
-}
-
-// The lowest of columns s0 .. end − 1 with a value in these rows that is not finite, or `end`.
-fn lowest_refused(
-    part: &[f64],
-    width: usize,
-    from: usize,
-    to: usize,
-    s0: usize,
-    end: usize,
-) -> usize
-    requires { ⌜ (s0 ≤ end) × (end ≤ width) × (end ≤ from) × (from ≤ to) × (to ≤ maxOrder) × (rowStart width to ≤ length (now part)) ⌝ }
-    ensures { λ s. ⌜ LowestRefused width from to s0 end (now (part .entry)) s ⌝ }
-{
-    let mut s = s0;
-    while s < end {
-        if !column_finite(part, width, from, to, s) {
-            return s;
-        }
-        s += 1;
-    }
-    end
-}
-
-// Columns s0 .. e − 1, up to the first that is refused: first the rows that eights leave, with the diagonal, and then the others. A column may be
-// refused for its lower rows alone, and is then before the one that the first rows refuse.
-fn finish_panel(
-    part: &mut [f64],
-    c: usize,
-    width: usize,
-    rows: usize,
-    s0: usize,
-    e: usize,
-) -> CallResult
-    requires { ⌜ (s0 ≤ e) × (e ≤ width) × (width ≤ rows) × (c + rows ≤ maxOrder) × (rowStart width rows ≤ length (now part)) ⌝ }
-    ensures { λ r. ⌜ PanelFinished c width rows s0 e (now (part .entry)) r (now (part .exit)) ⌝ }
-{
-    let eights = (rows - e) / 8;
-    let top = rows - 8 * eights;
-    let first = finish_top(part, c, width, top, s0, e);
-    if finish_below(part, width, top, eights, s0, first.end) {
-        return first.result;
-    }
-    let s = lowest_refused(part, width, top, rows, s0, first.end);
-    calls::refusal(11, c + s)
 }
 
 // The g columns from s0 on: less the products of the block column's own earlier columns, then finished.
@@ -292,10 +166,11 @@ fn factor_panel(
     rows: usize,
     s0: usize,
     g: usize,
-) -> CallResult
+    before: Verdict,
+) -> Verdict
     requires { ⌜ (s0 + g ≤ width) × (width ≤ rows) × (c + rows ≤ maxOrder) × (rowStart width rows ≤ length (now part)) ⌝ }
     requires { ⌜ g ≤ 16 ⌝ }
-    ensures { λ r. ⌜ ColumnsFactored c width rows s0 (s0 + g) (now (part .entry)) r (now (part .exit)) ⌝ }
+    ensures { λ r. ⌜ ColumnsFinished c width rows s0 (s0 + g) before (now (part .entry)) r (now (part .exit)) ⌝ }
 {
     let column = BlockColumn {
         start: 0,
@@ -303,30 +178,92 @@ fn factor_panel(
         rows,
     };
     update_panel(part, spare, column, column, s0, g, s0);
-    finish_panel(part, c, width, rows, s0, s0 + g)
+    let verdict = finish_triangle(part, c, width, s0, s0 + g, before);
+    finish_below(part, width, rows, s0, s0 + g);
+    verdict
 }
 
-// The block column that begins with column c, from the memory's start on, less the products of the columns before c already: panel by panel.
-fn factor_block(
+// All columns, panel by panel, and the first refusal by a pivot.
+fn factor_panels(
     part: &mut [f64],
     spare: &mut [f64],
     c: usize,
     width: usize,
     rows: usize,
-) -> CallResult
+) -> Verdict
     requires { ⌜ (width ≤ rows) × (c + rows ≤ maxOrder) × (rowStart width rows ≤ length (now part)) ⌝ }
-    ensures { λ r. ⌜ ColumnsFactored c width rows 0 width (now (part .entry)) r (now (part .exit)) ⌝ }
+    ensures { λ r. ⌜ ColumnsFinished c width rows 0 width success (now (part .entry)) r (now (part .exit)) ⌝ }
 {
+    let mut verdict = calls::refusal(0, 0);
     let mut s0 = 0;
     while s0 < width {
         let g = least(16, width - s0);
-        let result = factor_panel(part, spare, c, width, rows, s0, g);
-        if !calls::accepted(result) {
-            return result;
-        }
+        let next = factor_panel(part, spare, c, width, rows, s0, g, verdict);
+        verdict = next;
         s0 += g;
     }
-    calls::refusal(0, 0)
+    verdict
+}
+
+// Whether the entries below the diagonal of column s are finite.
+fn column_finite(part: &[f64], width: usize, rows: usize, s: usize) -> bool
+    requires { ⌜ (s < width) × (s < rows) × (rows ≤ maxOrder) × (rowStart width rows ≤ length (now part)) ⌝ }
+    ensures { λ finite. ⌜ finite ≡ columnFinite width rows (now (part .entry)) s ⌝ }
+{
+    let mut finite = true;
+    let mut r = s + 1;
+    while r < rows {
+        let p = Shape::place_in_block(width, r, 0) + s;
+        finite = finite & binary64::is_finite(part[p]);
+        r += 1;
+    }
+    finite
+}
+
+// The lowest column with an entry below its diagonal that is not finite, or `width`. The columns are looked through only where some value is not finite.
+fn lowest_overflow(part: &[f64], width: usize, rows: usize) -> usize
+    requires { ⌜ (width ≤ rows) × (rows ≤ maxOrder) × (rowStart width rows ≤ length (now part)) ⌝ }
+    ensures { λ s. ⌜ LowestOverflow width rows (now (part .entry)) s ⌝ }
+{
+    let size = Shape::place_in_block(width, rows, 0);
+    if checks::all_finite(&part[..size]) {
+        return width;
+    }
+    let mut s = 0;
+    while s < width {
+        if !column_finite(part, width, rows, s) {
+            return s;
+        }
+        s += 1;
+    }
+    width
+}
+
+// The verdict of a finished block column: a column with an overflow decides where no pivot refuses it or a column before it.
+fn judge_block(part: &[f64], c: usize, width: usize, rows: usize, first: Verdict) -> Verdict
+    requires { ⌜ (width ≤ rows) × (c + rows ≤ maxOrder) × (rowStart width rows ≤ length (now part)) ⌝ }
+    ensures { λ r. ⌜ BlockVerdict c width rows first (now (part .entry)) r ⌝ }
+{
+    let s = lowest_overflow(part, width, rows);
+    if s == width {
+        return first;
+    }
+    if !calls::accepted(first) {
+        if first.place <= c + s {
+            return first;
+        }
+    }
+    let p = Shape::place_in_block(width, s, 0) + s;
+    checks::judge_column(c + s, Pivot::Root(part[p]), false)
+}
+
+// The block column that begins with column c, from the memory's start on, less the products of the columns before c already: its values, and then its verdict.
+fn factor_block(part: &mut [f64], spare: &mut [f64], c: usize, width: usize, rows: usize) -> Verdict
+    requires { ⌜ (width ≤ rows) × (c + rows ≤ maxOrder) × (rowStart width rows ≤ length (now part)) ⌝ }
+    ensures { λ r. ⌜ BlockColumnFactored c width rows (now (part .entry)) r (now (part .exit)) ⌝ }
+{
+    let first = factor_panels(part, spare, c, width, rows);
+    judge_block(part, c, width, rows, first)
 }
 
 // The block column that begins with column c, less the products of all block columns before it.
@@ -355,8 +292,8 @@ fn update_by_all(m: &mut [f64], spare: &mut [f64], shape: Shape, c: usize)
     }
 }
 
-// The block column that begins with column c, finished up to its first refused column; it is worked on as a part of the memory from its start on.
-fn factor_part(m: &mut [f64], spare: &mut [f64], shape: Shape, c: usize) -> CallResult
+// The block column that begins with column c; it is worked on as a part of the memory from its start on.
+fn factor_part(m: &mut [f64], spare: &mut [f64], shape: Shape, c: usize) -> Verdict
     requires { ⌜ BlockAt (shape .order) (shape .block) c (length (now m)) ⌝ }
     ensures { λ r. ⌜ BlockFactored (shape .order) (shape .block) c (now (m .entry)) r (now (m .exit)) ⌝ }
 {
@@ -366,50 +303,24 @@ fn factor_part(m: &mut [f64], spare: &mut [f64], shape: Shape, c: usize) -> Call
     factor_block(&mut m[start..], spare, c, width, shape.order - c)
 }
 
-// The entry values of a block column, to the front of the work memory.
-fn save(m: &[f64], work: &mut [f64], start: usize, size: usize)
-    requires { ⌜ (start + size ≤ length (now m)) × (size ≤ length (now work)) ⌝ }
-    ensures { λ r. ⌜ Saved start size (now (m .entry)) (now (work .exit)) ⌝ }
-{
-    kernels::copy(&m[start..start + size], &mut work[..size]);
-}
-
-fn restore(m: &mut [f64], work: &[f64], start: usize, size: usize)
-    requires { ⌜ (start + size ≤ length (now m)) × (size ≤ length (now work)) ⌝ }
-    ensures { λ r. ⌜ Filled nan start size (λ k. getD (now (work .entry)) k nan) (now (m .entry)) (now (m .exit)) ⌝ }
-{
-    kernels::copy(&work[..size], &mut m[start..start + size]);
-}
-
-// As `factor_part`, with the work memory past the kept entry values as spare.
-fn factor_kept(m: &mut [f64], work: &mut [f64], shape: Shape, c: usize, size: usize) -> CallResult
-    requires { ⌜ BlockAt (shape .order) (shape .block) c (length (now m)) ⌝ }
-    requires { ⌜ size ≤ length (now work) ⌝ }
-    ensures { λ r. ⌜ BlockFactored (shape .order) (shape .block) c (now (m .entry)) r (now (m .exit)) ⌝ }
-    ensures { λ r. ⌜ ((p : ℕ) → p < size → getD (now (work .exit)) p nan ≡ getD (now (work .entry)) p nan) ⌝ }
-{
-    factor_part(m, &mut work[size..], shape, c)
-}
-
-// The entry values are kept in the work memory, and put back where a column is refused.
-fn factor_step(m: &mut [f64], work: &mut [f64], shape: Shape, c: usize) -> CallResult
+// The entry values are kept in the work memory, whose rest is spare, and put back where a column is refused.
+fn factor_step(m: &mut [f64], work: &mut [f64], shape: Shape, c: usize) -> Verdict
     requires { ⌜ BlockAt (shape .order) (shape .block) c (length (now m)) ⌝ }
     requires { ⌜ length (now work) ≡ blockWork (shape .order) (shape .block) ⌝ }
     ensures { λ r. ⌜ BlockDone (shape .order) (shape .block) c (now (m .entry)) r (now (m .exit)) ⌝ }
 {
     let start = shape.block_start(c);
-    let end = c + shape.block_width(c);
-    let size = shape.block_start(end) - start;
-    save(m, work, start, size);
-    let result = factor_kept(m, work, shape, c, size);
+    let size = Shape::place_in_block(shape.block_width(c), shape.order - c, 0);
+    copy_part(m, start, work, 0, size);
+    let result = factor_part(m, &mut work[size..], shape, c);
     if !calls::accepted(result) {
-        restore(m, work, start, size);
+        copy_part(work, 0, m, start, size);
     }
     result
 }
 
 // All block columns, up to the one with the first refused column.
-fn factor_blocks(m: &mut [f64], work: &mut [f64], shape: Shape) -> CallResult
+fn factor_blocks(m: &mut [f64], work: &mut [f64], shape: Shape) -> Verdict
     requires { ⌜ Sized (shape .order) (shape .block) (length (now m)) (length (now work)) ⌝ }
     ensures { λ r. ⌜ BlocksDone (shape .order) (shape .block) (now (m .entry)) r (now (m .exit)) ⌝ }
 {
@@ -427,13 +338,13 @@ fn factor_blocks(m: &mut [f64], work: &mut [f64], shape: Shape) -> CallResult
 }
 
 // All block columns, with the work memory cleared afterwards.
-fn factor_blocks_cleared(m: &mut [f64], work: &mut [f64], shape: Shape) -> CallResult
+fn factor_blocks_cleared(m: &mut [f64], work: &mut [f64], shape: Shape) -> Verdict
     requires { ⌜ Sized (shape .order) (shape .block) (length (now m)) (length (now work)) ⌝ }
     ensures { λ r. ⌜ BlocksDone (shape .order) (shape .block) (now (m .entry)) r (now (m .exit)) ⌝ }
     ensures { λ _. ⌜ now (work .exit) ≡ replicate (blockWork (shape .order) (shape .block)) zero64 ⌝ }
 {
     let result = factor_blocks(m, work, shape);
-    calls::clear(work);
+    checks::clear(work);
     result
 }
 
@@ -443,10 +354,10 @@ pub fn factor(shape: Shape, matrix: &mut [f64], work: &mut [f64]) -> CallResult
         ⌜ DoneAs (factorize Layout.Blocked (shape .order) (shape .block) (now (matrix .entry)) (now (work .entry))) r (now (matrix .exit))
         (now (work .exit)) ⌝ }
 {
-    let checks = calls::check_factor(Layout::Blocked, shape, matrix, work.len());
+    let checks = checks::check_factor(Layout::Blocked, shape, matrix, work.len());
     if !calls::accepted(checks) {
-        return checks;
+        return calls::result(checks);
     }
     let needed = shape.block_work();
-    factor_blocks_cleared(matrix, &mut work[..needed], shape)
+    calls::result(factor_blocks_cleared(matrix, &mut work[..needed], shape))
 }

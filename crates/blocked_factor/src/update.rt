@@ -7,12 +7,12 @@ ghost use lib.ListN.{length, getD};
 ghost use lib.Ieee.{nan};
 ghost use Rattle.shape.specs.Bounds.{maxOrder};
 ghost use Rattle.calls.specs.Arithmetic.{minusProducts};
-ghost use Rattle.kernels.specs.Kernels.{Filled};
-ghost use Rattle.blocked_factor.specs.BlockColumns.{rowStart, rowAt, sourceAt, Packed, PanelUpdated, Source};
-use crate::kernel::minus_products;
-use crate::kernel::pack_lane;
-use crate::kernel::update_part16;
-use crate::kernel::update16;
+ghost use Rattle.kernels.specs.Kernels.{Filled, rowAt};
+ghost use Rattle.blocked_factor.specs.BlockColumns.{rowStart, sourceAt, Packed, PanelUpdated, Source};
+use kernels::minus_products;
+use kernels::pack_lane;
+use kernels::update_part16;
+use kernels::update16;
 use shape::Shape;
 use shape::least;
 

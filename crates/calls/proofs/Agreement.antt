@@ -14,14 +14,14 @@ use Rattle.binary64.specs.Kinds.{finite, positive, zero64}
 use Rattle.shape.specs.Bounds.{maxOrder, maxBlock, maxRhs}
 use Rattle.shape.specs.Places.{triangle, blockWork}
 use Rattle.shape.specs.Layouts.{Entry, Bijection}
-use Rattle.calls.specs.declared.CallResult.{CallResult}
+use Rattle.calls.specs.declared.Verdict.{Verdict}
 use Rattle.calls.specs.Sequences.{all}
 use Rattle.calls.specs.declared.Layout.{Layout}
 use Rattle.calls.specs.declared.Layout.the-variants.{Packed, Blocked}
 use Rattle.calls.specs.Triangles.{Triangle, entry, placeOf, height, load, store}
 use Rattle.calls.specs.declared.Call.the-variants.{Rearranger, Factor, Solver}
-use Rattle.calls.specs.Refusals.{neededWork, success, accepted, refusal, refuseIf, firstRefusal, lowestRefusal, columnRules, rule5, rule6, rule7, rule8, rule9}
-use Rattle.calls.specs.Calls.{Solved, clear, rearrange, moved, columnsVerdict, finished, factored, factorize, solverChecks, rhsVerdict, solutions, solved, solve}
+use Rattle.calls.specs.Refusals.{neededWork, success, accepted, refusal, refuseIf, firstRefusal, lowestRefusal, columnVerdict, rule5, rule6, rule7, rule8, rule9}
+use Rattle.calls.specs.Calls.{Solved, resultOf, succeeded, clear, rearrange, moved, columnsVerdict, finished, factored, factorize, solverChecks, rhsVerdict, solutions, solved, solve}
 use Rattle.calls.specs.Pipelines.{Ended, plainPipeline, blockedPipeline, Start, PipelinesAgree}
 use Rattle.calls.proofs.Sequences.{all-at, all-of}
 use Rattle.calls.proofs.Triangles.{Shaped, shaped-load, entry-load, length-store, store-same, load-store, store-whole}
@@ -36,19 +36,19 @@ cond-both P false x y p q = q
 
 -- ---- free of any layout
 
-diagonalRule : ℕ → Triangle → CallResult
+diagonalRule : ℕ → Triangle → Verdict
 diagonalRule n l = lowestRefusal (λ j. refuseIf (not (positive (entry l j j))) (refusal 9 j zero64)) n
 
-freeChecks : ℕ → Triangle → List Float → CallResult
+freeChecks : ℕ → Triangle → List Float → Verdict
 freeChecks n l rhs = firstRefusal (rule8 rhs ∷ diagonalRule n l ∷ [])
 
 abbrev freeDone : ℕ → ℕ → Triangle → List Float → List Float → Solved
 freeDone n m l rhs work =
     let verdict = rhsVerdict n m l rhs in
-    record { result = verdict; rhs = solutions n l (cond (accepted verdict) m (verdict .place)) rhs; work = clear n work }
+    record { result = resultOf verdict; rhs = solutions n l (cond (accepted verdict) m (verdict .place)) rhs; work = clear n work }
 
 abbrev freeLeft : ℕ → Triangle → List Float → List Float → Solved
-freeLeft n l rhs work = record { result = freeChecks n l rhs; rhs = rhs; work = work }
+freeLeft n l rhs work = record { result = resultOf (freeChecks n l rhs); rhs = rhs; work = work }
 
 freeSolved : ℕ → ℕ → Triangle → List Float → List Float → Solved
 freeSolved n m l rhs work = cond (accepted (freeChecks n l rhs)) (freeDone n m l rhs work) (freeLeft n l rhs work)
@@ -128,7 +128,7 @@ module _ (n b m : ℕ) (order : n ≤ maxOrder) (low : 1 ≤ b) (high : b ≤ ma
       neededWork (Factor layout) n b ≤ length work →
       factorize layout n b memory work
       ≡ record {
-        result = columnsVerdict n a;
+        result = resultOf (columnsVerdict n a);
         matrix = store place (columns n a (finished layout n b (columnsVerdict n a))) memory;
         work = clear (neededWork (Factor layout) n b) work;
       }
@@ -138,14 +138,14 @@ module _ (n b m : ℕ) (order : n ≤ maxOrder) (low : 1 ≤ b) (high : b ≤ ma
       (factor-checks layout n b memory (length work) (record { order = order; blockLow = low; blockHigh = high; matrix = whole; work = hw }) f, e)
       refl
 
-all-finished : (layout : Layout) (n b : ℕ) (v : CallResult) → T (accepted v) → finished layout n b v ≡ n
+all-finished : (layout : Layout) (n b : ℕ) (v : Verdict) → T (accepted v) → finished layout n b v ≡ n
 all-finished Packed n b v t = rw (is-true (accepted v) t) refl
 all-finished Blocked n b v t = rw (is-true (accepted v) t) refl
 
 rearrange-free :
     (from to : Layout) (n b : ℕ) (memory work : List Float) → Sizes Rearranger n b (length memory) (length work) →
     rearrange from to n b memory work
-    ≡ record { result = success; matrix = moved from to n b memory; work = clear (blockWork n b) work }
+    ≡ record { result = resultOf success; matrix = moved from to n b memory; work = clear (blockWork n b) work }
 unfolding rearrange
 rearrange-free from to n b memory work s = rw (rearranger-checks n b (length memory) (length work) s) refl
 
@@ -156,7 +156,7 @@ module _ (n b m : ℕ) (matrix rhs plainWork blockedWork : List Float) (v : T (a
   abbrev a : Triangle
   a = load (placeOf Packed n b) (height n) n matrix
 
-  abbrev verdict : CallResult
+  abbrev verdict : Verdict
   verdict = columnsVerdict n a
 
   abbrev factorOf : Triangle
@@ -205,7 +205,7 @@ module _ (n b m : ℕ) (matrix rhs plainWork blockedWork : List Float) (v : T (a
 
   plain-factor :
       factorize Packed n b matrix plainWork
-      ≡ record { result = verdict; matrix = store (placeOf Packed n b) (columns n a (finished Packed n b verdict)) matrix; work = clear n plainWork }
+      ≡ record { result = resultOf verdict; matrix = store (placeOf Packed n b) (columns n a (finished Packed n b verdict)) matrix; work = clear n plainWork }
   plain-factor =
       factor-free n b m (s .order) (s .blockLow) (s .blockHigh) (s .rhsCount) Packed a matrix plainWork refl (s .matrixLength) (s .matrixFinite)
       (s .plainWorkLength)
@@ -213,7 +213,7 @@ module _ (n b m : ℕ) (matrix rhs plainWork blockedWork : List Float) (v : T (a
   blocked-factor :
       factorize Blocked n b inBlocks clearedWork
       ≡ record {
-        result = verdict;
+        result = resultOf verdict;
         matrix = store (placeOf Blocked n b) (columns n a (finished Blocked n b verdict)) inBlocks;
         work = clear (blockWork n b) clearedWork;
       }
@@ -223,18 +223,18 @@ module _ (n b m : ℕ) (matrix rhs plainWork blockedWork : List Float) (v : T (a
 
   there :
       rearrange Packed Blocked n b matrix blockedWork
-      ≡ record { result = success; matrix = inBlocks; work = clearedWork }
+      ≡ record { result = resultOf success; matrix = inBlocks; work = clearedWork }
   there =
       rearrange-free Packed Blocked n b matrix blockedWork
       (record { order = s .order; blockLow = s .blockLow; blockHigh = s .blockHigh; matrix = s .matrixLength; work = s .blockedWorkLength })
 
-  plain-verdict : plainPipeline n b m matrix rhs plainWork .factorResult ≡ verdict
+  plain-verdict : plainPipeline n b m matrix rhs plainWork .factorResult ≡ resultOf verdict
   unfolding plainPipeline
-  plain-verdict = rw plain-factor (cond-both (λ (e : Ended). e .factorResult ≡ verdict) (accepted verdict) _ _ refl refl)
+  plain-verdict = rw plain-factor (cond-both (λ (e : Ended). e .factorResult ≡ resultOf verdict) (accepted verdict) _ _ refl refl)
 
-  blocked-verdict : blockedPipeline n b m matrix rhs blockedWork .factorResult ≡ verdict
+  blocked-verdict : blockedPipeline n b m matrix rhs blockedWork .factorResult ≡ resultOf verdict
   unfolding blockedPipeline
-  blocked-verdict = rw (there, blocked-factor) (cond-both (λ (e : Ended). e .factorResult ≡ verdict) (accepted verdict) _ _ refl refl)
+  blocked-verdict = rw (there, blocked-factor) (cond-both (λ (e : Ended). e .factorResult ≡ resultOf verdict) (accepted verdict) _ _ refl refl)
 
   -- ---- an accepted factor
 
@@ -245,13 +245,13 @@ module _ (n b m : ℕ) (matrix rhs plainWork blockedWork : List Float) (v : T (a
     factor-finite : (i j : ℕ) → Entry n i j → T (finite (entry factorOf i j))
     unfolding columnsVerdict
     factor-finite i j e =
-        columns-finite n a matrix-given n (omega arith) (lowest-accepted (λ c. columnRules (height n) a (columns n a c) c) n t) i j e
+        columns-finite n a matrix-given n (omega arith) (lowest-accepted (λ c. columnVerdict (height n) a (columns n a c) c) n t) i j e
         (omega (arith, e .lower, e .inside))
 
     plain-ended :
         plainPipeline n b m matrix rhs plainWork
         ≡ (let d = freeSolved n m factorOf rhs (clear n plainWork) in
-        record { factorResult = verdict; solverResult = d .result; matrix = store (placeOf Packed n b) factorOf matrix; rhs = d .rhs; work = d .work })
+        record { factorResult = resultOf verdict; solverResult = d .result; matrix = store (placeOf Packed n b) factorOf matrix; rhs = d .rhs; work = d .work })
     unfolding plainPipeline
     plain-ended =
         rw (
@@ -290,7 +290,7 @@ module _ (n b m : ℕ) (matrix rhs plainWork blockedWork : List Float) (v : T (a
 
     back :
         rearrange Blocked Packed n b factorBlocks (solvedBlocks .work)
-        ≡ record { result = success; matrix = moved Blocked Packed n b factorBlocks; work = clear (blockWork n b) (solvedBlocks .work) }
+        ≡ record { result = resultOf success; matrix = moved Blocked Packed n b factorBlocks; work = clear (blockWork n b) (solvedBlocks .work) }
     back =
         rearrange-free Blocked Packed n b factorBlocks (solvedBlocks .work)
         (record { order = s .order; blockLow = s .blockLow; blockHigh = s .blockHigh; matrix = blocks-length; work = omega (arith, work-length, s .blockedWorkLength) })
@@ -298,7 +298,7 @@ module _ (n b m : ℕ) (matrix rhs plainWork blockedWork : List Float) (v : T (a
     blocked-ended :
         blockedPipeline n b m matrix rhs blockedWork
         ≡ record {
-          factorResult = verdict;
+          factorResult = resultOf verdict;
           solverResult = solvedBlocks .result;
           matrix = store (placeOf Packed n b) factorOf matrix;
           rhs = solvedBlocks .rhs;
@@ -335,22 +335,22 @@ pipelines-agree n b m matrix rhs pw bw v s =
     work : List Float
     work = clear (blockWork n b) (clear (blockWork n b) bw)
 
-    ok : T (accepted (plainPipeline n b m matrix rhs pw .factorResult)) → T (accepted (verdict n b m matrix rhs pw bw v s))
-    ok t = subst (λ r. T (accepted r)) (plain-verdict n b m matrix rhs pw bw v s) t
+    ok : T (succeeded (plainPipeline n b m matrix rhs pw .factorResult)) → T (accepted (verdict n b m matrix rhs pw bw v s))
+    ok t = subst (λ r. T (succeeded r)) (plain-verdict n b m matrix rhs pw bw v s) t
 
     plain :
-        T (accepted (plainPipeline n b m matrix rhs pw .factorResult)) →
+        T (succeeded (plainPipeline n b m matrix rhs pw .factorResult)) →
         plainPipeline n b m matrix rhs pw
         ≡ (let d = freeSolved n m l rhs (clear n pw) in
-        record { factorResult = verdict n b m matrix rhs pw bw v s; solverResult = d .result; matrix = store (placeOf Packed n b) l matrix; rhs = d .rhs; work = d .work })
+        record { factorResult = resultOf (verdict n b m matrix rhs pw bw v s); solverResult = d .result; matrix = store (placeOf Packed n b) l matrix; rhs = d .rhs; work = d .work })
     plain t = plain-ended n b m matrix rhs pw bw v s (ok t)
 
     block :
-        T (accepted (plainPipeline n b m matrix rhs pw .factorResult)) →
+        T (succeeded (plainPipeline n b m matrix rhs pw .factorResult)) →
         blockedPipeline n b m matrix rhs bw
         ≡ (let d = freeSolved n m l rhs work in
         record {
-          factorResult = verdict n b m matrix rhs pw bw v s;
+          factorResult = resultOf (verdict n b m matrix rhs pw bw v s);
           solverResult = d .result;
           matrix = store (placeOf Packed n b) l matrix;
           rhs = d .rhs;

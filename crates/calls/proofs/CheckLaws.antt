@@ -10,14 +10,14 @@ use lib.Ieee.{Float, nan}
 use Rattle.binary64.specs.Kinds.{finite, positive, zero64}
 use Rattle.shape.specs.Bounds.{maxOrder, maxBlock, maxRhs}
 use Rattle.shape.specs.Places.{triangle}
-use Rattle.calls.specs.declared.CallResult.{CallResult}
+use Rattle.calls.specs.declared.Verdict.{Verdict}
 use Rattle.calls.specs.declared.Layout.{Layout}
 use Rattle.calls.specs.declared.Call.{Call}
 use Rattle.calls.specs.declared.Call.the-variants.{Rearranger, Factor, Solver}
 use Rattle.calls.specs.Sequences.{all}
 use Rattle.calls.specs.Triangles.{placeOf}
 use Rattle.calls.specs.Refusals.{success, accepted, refusal, refuseIf, firstRefusal, byBlocks, neededWork, rule1, rule2, rule3, rule4, rule5, rule6, rule7, rule8, finiteRule, rule9}
-use Rattle.calls.specs.Calls.{DoneAs, rearrangerChecks, factorChecks, solverChecks, factorize}
+use Rattle.calls.specs.Calls.{DoneAs, resultOf, rearrangerChecks, factorChecks, solverChecks, factorize}
 use Rattle.calls.proofs.Sequences.{all-of}
 use Rattle.calls.proofs.Refusals.{not-not, refuse-not, not-refused, first-accepted, lowest-accepted}
 use Rattle.calls.proofs.Judging.{first-success, first-alone, lowest-all}
@@ -64,7 +64,7 @@ unfolding rule6
 rule6-accepted n m l h = eqb→eq l (n * m) (not-not (eqb l (n * m)) (not-refused (not (eqb l (n * m))) 5 0 zero64 h))
 
 -- rules 7 and 8 at one position
-abbrev pub finiteAt : ℕ → List Float → ℕ → CallResult
+abbrev pub finiteAt : ℕ → List Float → ℕ → Verdict
 finiteAt code memory p = refuseIf (not (finite (getD memory p nan))) (refusal code p zero64)
 
 pub finite-success : (code : ℕ) (memory : List Float) → T (accepted (finiteRule (suc code) memory)) → finiteRule (suc code) memory ≡ success
@@ -81,7 +81,7 @@ pub finite-alone : (code : ℕ) (memory : List Float) → firstRefusal (finiteRu
 finite-alone code memory = first-alone (finiteRule (suc code) memory) (finite-success code memory)
 
 -- rule 9 at one column
-abbrev pub positiveAt : (ℕ → ℕ → ℕ) → List Float → ℕ → CallResult
+abbrev pub positiveAt : (ℕ → ℕ → ℕ) → List Float → ℕ → Verdict
 positiveAt place matrix j = refuseIf (not (positive (getD matrix (place j j) nan))) (refusal 9 j zero64)
 
 module _ (place : ℕ → ℕ → ℕ) (n : ℕ) (matrix : List Float) where
@@ -124,10 +124,10 @@ pub record SolverAccepted (layout : Layout) (n b m : ℕ) (matrix rhs : List Flo
   pub diagonal : (j : ℕ) → j < n → T (positive (getD matrix (placeOf layout n b j j) nan))
 
 module _ (call : Call) (n b ml wl : ℕ) where
-  abbrev pub sizeRules : List CallResult
+  abbrev pub sizeRules : List Verdict
   sizeRules = rule1 n ∷ rule2 call b ∷ rule3 n ml ∷ rule4 call n b wl ∷ []
 
-  pub sizes-accepted : (rest : List CallResult) → T (accepted (firstRefusal (sizeRules ++ rest))) → SizesAccepted call n b ml wl × T (accepted (firstRefusal rest))
+  pub sizes-accepted : (rest : List Verdict) → T (accepted (firstRefusal (sizeRules ++ rest))) → SizesAccepted call n b ml wl × T (accepted (firstRefusal rest))
   sizes-accepted rest h =
       let p1 = first-accepted (rule1 n) (rule2 call b ∷ rule3 n ml ∷ rule4 call n b wl ∷ rest) h in
       let p2 = first-accepted (rule2 call b) (rule3 n ml ∷ rule4 call n b wl ∷ rest) (p1 .1) in
@@ -160,10 +160,10 @@ module _ (layout : Layout) (n b : ℕ) (matrix : List Float) (wl : ℕ) (h : T (
       record { sizes = s .0; matrixFinite = finite-accepted 6 matrix (first-accepted (rule7 matrix) [] (s .1) .0) }
 
 -- a factor after its checks
-module _ (layout : Layout) (n b : ℕ) (m w : List Float) (checks : CallResult) (e : checks ≡ factorChecks layout n b m (length w)) where
-  pub factor-refused : accepted checks ≡ false → DoneAs (factorize layout n b m w) checks m w
+module _ (layout : Layout) (n b : ℕ) (m w : List Float) (checks : Verdict) (e : checks ≡ factorChecks layout n b m (length w)) where
+  pub factor-refused : accepted checks ≡ false → DoneAs (factorize layout n b m w) (resultOf checks) m w
   unfolding factorize
-  factor-refused f = rw (ap accepted (sym e) ∙ f) (record { result = e; matrix = refl; work = refl })
+  factor-refused f = rw (ap accepted (sym e) ∙ f) (record { result = ap resultOf e; matrix = refl; work = refl })
 
   pub factor-passed : accepted checks ≡ true → FactorAccepted layout n b m (length w)
   factor-passed t = factor-accepted layout n b m (length w) (rw (ap accepted (sym e) ∙ t) tt)

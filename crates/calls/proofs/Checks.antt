@@ -11,7 +11,7 @@ use lib.Ieee.{Float}
 use Rattle.binary64.specs.Kinds.{finite, zero64}
 use Rattle.shape.specs.Bounds.{maxOrder, maxBlock, maxRhs}
 use Rattle.shape.specs.Places.{triangle}
-use Rattle.calls.specs.declared.CallResult.{CallResult}
+use Rattle.calls.specs.declared.Verdict.{Verdict}
 use Rattle.calls.specs.Sequences.{all}
 use Rattle.calls.specs.declared.Layout.{Layout}
 use Rattle.calls.specs.declared.Call.{Call}
@@ -60,7 +60,7 @@ pub record Sizes (call : Call) (n b matrixLength workLength : ℕ) : Type 0 wher
   pub work : neededWork call n b ≤ workLength
 
 pub sizes-pass :
-    (call : Call) (n b ml wl : ℕ) (rest : List CallResult) → Sizes call n b ml wl →
+    (call : Call) (n b ml wl : ℕ) (rest : List Verdict) → Sizes call n b ml wl →
     firstRefusal (rule1 n ∷ rule2 call b ∷ rule3 n ml ∷ rule4 call n b wl ∷ rest) ≡ firstRefusal rest
 sizes-pass call n b ml wl rest s =
     first-passes (rule1 n) (rule2 call b ∷ rule3 n ml ∷ rule4 call n b wl ∷ rest) (rule1-passes n (s .order))

@@ -5,26 +5,25 @@ use native.Mathlib.Nat.{sub-self}
 use native.Mathlib.Omega.{arith}
 use native.Mathlib.Decide.{decLt}
 use mathlib.Core.Path.{_≡_, refl, sym, ap, ap₂, _∙_, subst}
-use mathlib.Core.Bool.{Bool, true, false, cond, not}
-use mathlib.Core.List.{[], _∷_}
+use mathlib.Core.List.{[]}
 use lib.Dec.{T}
 use lib.ListN.{length, getD}
 use lib.Ieee.{Float, nan, binary64, fits, sub, mul}
 use lib.Ieee.Fits.{sub-fits}
-use Rattle.binary64.specs.Kinds.{finite, positive, belowInfinity, zero64}
+use Rattle.binary64.specs.Kinds.{finite, positive, belowInfinity}
 use Rattle.binary64.specs.Root.{root}
 use Rattle.binary64.specs.Judged.{judged}
-use Rattle.binary64.specs.declared.Pivot.the-variants.{Root, Refused}
+use Rattle.binary64.specs.declared.Pivot.the-variants.{Root}
 use Rattle.binary64.proofs.Differences.{difference-below, finite-below, below-finite}
 use Rattle.binary64.proofs.RootLaws.{root-finite}
 use Rattle.shape.specs.Layouts.{Entry}
 use Rattle.calls.specs.Sequences.{all}
 use Rattle.calls.specs.Triangles.{Triangle, entry, height}
 use Rattle.calls.specs.Arithmetic.{minusProducts, pivot, quotient, below, factorColumn, cholesky}
-use Rattle.calls.specs.Refusals.{accepted, firstRefusal, rule10, rule11, columnRules}
+use Rattle.calls.specs.Refusals.{accepted, columnVerdict}
 use Rattle.calls.proofs.Sequences.{length-grow, getD-grow, length-tabulate, getD-tabulate, all-at}
 use Rattle.calls.proofs.Triangles.{Shaped}
-use Rattle.calls.proofs.Refusals.{not-refused, not-not, first-accepted}
+use Rattle.calls.proofs.ColumnRules.{judged-positive, rules-accepted}
 
 module _ (n : ℕ) (a : Triangle) where
   -- the first k columns
@@ -102,26 +101,15 @@ squares-below x (suc k) t f h xs =
 
 -- ---- accepted columns are finite
 
-judged-accepted : (j : ℕ) (x : Float) → T (accepted (rule10 j (judged x))) → T (positive x)
-unfolding judged
-judged-accepted j x t = go (positive x) t
-  where
-    go : (b : Bool) → T (accepted (rule10 j (cond b (Root (root x)) (Refused x)))) → T b
-    go true t = tt
-    go false t = t
-
 pub column-accepted :
-    (heightOf : ℕ → ℕ) (a l : Triangle) (j : ℕ) → T (accepted (columnRules heightOf a l j)) →
+    (heightOf : ℕ → ℕ) (a l : Triangle) (j : ℕ) → T (accepted (columnVerdict heightOf a l j)) →
     T (positive (pivot a l j)) × T (all finite (below heightOf a j l))
-unfolding columnRules rule11
+unfolding columnVerdict
 column-accepted heightOf a l j t =
-    let two : T (accepted (rule10 j (judged (pivot a l j)))) × T (accepted (firstRefusal (rule11 j (below heightOf a j l) ∷ []))) =
-    first-accepted (rule10 j (judged (pivot a l j))) (rule11 j (below heightOf a j l) ∷ []) t
+    let both : (judged (pivot a l j) ≡ Root (root (pivot a l j))) × T (all finite (below heightOf a j l)) =
+    rules-accepted j (pivot a l j) (all finite (below heightOf a j l)) t
     in
-    let last : T (accepted (rule11 j (below heightOf a j l))) × T (accepted (firstRefusal [])) =
-    first-accepted (rule11 j (below heightOf a j l)) [] (two .1)
-    in
-    (judged-accepted j (pivot a l j) (two .0), not-not (all finite (below heightOf a j l)) (not-refused (not (all finite (below heightOf a j l))) 10 j zero64 (last .0)))
+    (judged-positive (pivot a l j) (both .0), both .1)
 
 -- the matrix's entries are finite values of binary64
 pub record FiniteMatrix (n : ℕ) (a : Triangle) : Type 0 where
@@ -141,7 +129,7 @@ module _ (n : ℕ) (a : Triangle) (given : FiniteMatrix n a) where
       squares-below (λ k. entry (columns n a j) j k) j (entry a j j) (given .values j j diagonal) (given .finites j j diagonal)
       (λ k p. before j k (record { lower = omega arith; inside = h }) p)
 
-  pub columns-finite : (k : ℕ) → k ≤ n → ((j : ℕ) → j < k → T (accepted (columnRules (height n) a (columns n a j) j))) → FiniteColumns k
+  pub columns-finite : (k : ℕ) → k ≤ n → ((j : ℕ) → j < k → T (accepted (columnVerdict (height n) a (columns n a j) j))) → FiniteColumns k
   columns-finite zero le pass i j e h = absurd (omega arith)
   columns-finite (suc k) le pass i j e h =
       let before : FiniteColumns k = columns-finite k (omega arith) (λ c p. pass c (omega arith)) in

@@ -11,13 +11,14 @@ use Rattle.binary64.specs.Root.{root}
 use Rattle.binary64.specs.Judged.{judged}
 use Rattle.shape.specs.Places.{triangle, packedPlace, blockedPlace, blockWork}
 use Rattle.calls.specs.declared.CallResult.{CallResult}
+use Rattle.calls.specs.declared.Verdict.{Verdict}
 use Rattle.calls.specs.declared.Layout.{Layout}
 use Rattle.calls.specs.declared.Layout.the-variants.{Packed, Blocked}
 use Rattle.calls.specs.Sequences.{iterate, grow, tabulate, all}
 use Rattle.calls.specs.Triangles.{entry, height, placeOf, load, storeColumn, store}
 use Rattle.calls.specs.Arithmetic.{minusProducts, pivot, quotient, below, factorColumn, cholesky, forward, backwardRows, backward}
-use Rattle.calls.specs.Refusals.{firstRefusal, lowestRefusal, rule1, rule2, rule3, rule4, rule5, rule6, finiteRule, rule9, rule11, columnRules, rule12}
-use Rattle.calls.specs.Calls.{clear, rearrangerChecks, moved, rearrange, factorChecks, columnsVerdict, factored, factorize, solverChecks, rhsPart, solution, rhsVerdict, solutions, solved, solve}
+use Rattle.calls.specs.Refusals.{firstRefusal, lowestRefusal, rule1, rule2, rule3, rule4, rule5, rule6, finiteRule, rule9, rule11, columnRules, columnVerdict, rule12}
+use Rattle.calls.specs.Calls.{resultOf, clear, rearrangerChecks, moved, rearrange, factorChecks, columnsVerdict, factored, factorize, solverChecks, rhsPart, solution, rhsVerdict, solutions, solved, solve}
 use Rattle.calls.specs.Pipelines.{Ended, plainPipeline, blockedPipeline}
 
 -- ---- bit patterns
@@ -116,6 +117,10 @@ success = (0, 0, 0)
 gives : CallResult → Answer → Bool
 gives r answer = eqb (r .code) (answer .0) && eqb (r .place) (answer .1) && eqb (toBits binary64 (r .value)) (answer .2)
 
+decides : Verdict → Answer → Bool
+unfolding gives
+decides v answer = gives (resultOf v) answer
+
 -- work memory of one value more than is needed, none of them zero, and what a call leaves there
 used : ℕ → List Float
 unfolding memory
@@ -194,7 +199,7 @@ hasRoot v r = eqb (toBits binary64 (root (ofBits binary64 v))) r
 -- ---- the table
 
 pub rows : List Bool
-unfolding moves factors solves moveRefused factorRefused solveRefused ends job at hasRoot gives memory used
+unfolding moves factors solves moveRefused factorRefused solveRefused ends job at hasRoot gives decides memory used
 rows =
     -- n 0, empty memory: success.
     gives (rearrange Packed Blocked 0 1 [] [] .result) success
@@ -284,19 +289,30 @@ rows =
     -- The first x is 1 − 2^−54 − 1: +0 with falling k, −2^−54 with rising k.
     ∷ solves Packed 3 1 1 (one ∷ one ∷ twoToMinus54 ∷ one ∷ 0 ∷ one ∷ []) (one ∷ two ∷ one ∷ []) success (0 ∷ one ∷ one ∷ [])
     -- ---- codes 1 to 9, each where the rules before it pass
-    ∷ gives (rearrangerChecks 4001 201 0 0) (1, 0, 0)
-    ∷ gives (rearrangerChecks 4000 201 0 0) (2, 0, 0)
-    ∷ gives (rearrangerChecks 4000 0 0 0) (2, 0, 0)
-    ∷ gives (rearrangerChecks 4000 200 0 0) (3, 0, 0)
-    ∷ gives (rearrangerChecks 4000 200 8002000 799999) (4, 0, 0)
-    ∷ gives (rearrangerChecks 4000 200 8002000 800000) success
-    ∷ gives (factorChecks Packed 1 0 (memory (infinity ∷ [])) 0) (4, 0, 0)
-    ∷ gives (factorChecks Packed 1 0 (memory (infinity ∷ [])) 1) (7, 0, 0)
-    ∷ gives (solverChecks Packed 1 0 1001 (memory (two ∷ [])) [] 1) (5, 0, 0)
-    ∷ gives (solverChecks Packed 1 0 1000 (memory (two ∷ [])) [] 1) (6, 0, 0)
-    ∷ gives (solverChecks Blocked 3 2 0 (memory (one ∷ one ∷ one ∷ infinity ∷ one ∷ one ∷ [])) [] 3) (7, 3, 0)
-    ∷ gives (solverChecks Blocked 1 2 2 (memory (0 ∷ [])) (memory (one ∷ infinity ∷ [])) 1) (8, 1, 0)
-    ∷ gives (solverChecks Blocked 3 2 0 (memory (one ∷ 0 ∷ one ∷ 0 ∷ 0 ∷ 0 ∷ [])) [] 3) (9, 2, 0)
+    ∷ decides (rearrangerChecks 4001 201 0 0) (1, 0, 0)
+    ∷ decides (rearrangerChecks 4000 201 0 0) (2, 0, 0)
+    ∷ decides (rearrangerChecks 4000 0 0 0) (2, 0, 0)
+    ∷ decides (rearrangerChecks 4000 200 0 0) (3, 0, 0)
+    ∷ decides (rearrangerChecks 4000 200 8002000 799999) (4, 0, 0)
+    ∷ decides (rearrangerChecks 4000 200 8002000 800000) success
+    ∷ decides (factorChecks Packed 1 0 (memory (infinity ∷ [])) 0) (4, 0, 0)
+    ∷ decides (factorChecks Packed 1 0 (memory (infinity ∷ [])) 1) (7, 0, 0)
+    ∷ decides (solverChecks Packed 1 0 1001 (memory (two ∷ [])) [] 1) (5, 0, 0)
+    ∷ decides (solverChecks Packed 1 0 1000 (memory (two ∷ [])) [] 1) (6, 0, 0)
+    ∷ decides (solverChecks Blocked 3 2 0 (memory (one ∷ one ∷ one ∷ infinity ∷ one ∷ one ∷ [])) [] 3) (7, 3, 0)
+    ∷ decides (solverChecks Blocked 1 2 2 (memory (0 ∷ [])) (memory (one ∷ infinity ∷ [])) 1) (8, 1, 0)
+    ∷ decides (solverChecks Blocked 3 2 0 (memory (one ∷ 0 ∷ one ∷ 0 ∷ 0 ∷ 0 ∷ [])) [] 3) (9, 2, 0)
+    -- Two rules that hold together, or one at two places: the first decides.
+    ∷ decides (factorChecks Blocked 4001 0 [] 0) (1, 0, 0)
+    ∷ decides (factorChecks Blocked 1 0 [] 1) (2, 0, 0)
+    ∷ decides (factorChecks Packed 1 1 [] 0) (3, 0, 0)
+    ∷ decides (solverChecks Blocked 4001 0 0 [] [] 0) (1, 0, 0)
+    ∷ decides (solverChecks Blocked 1 0 0 [] [] 0) (2, 0, 0)
+    ∷ decides (solverChecks Packed 1 1 0 [] [] 0) (3, 0, 0)
+    ∷ decides (solverChecks Packed 1 1 1001 (memory (two ∷ [])) [] 0) (4, 0, 0)
+    ∷ decides (solverChecks Packed 1 1 1 (memory (infinity ∷ [])) [] 1) (6, 0, 0)
+    ∷ decides (solverChecks Packed 1 1 1 (memory (infinity ∷ [])) (memory (infinity ∷ [])) 1) (7, 0, 0)
+    ∷ decides (solverChecks Packed 3 1 0 (memory (one ∷ one ∷ one ∷ 0 ∷ one ∷ 0 ∷ [])) [] 3) (9, 1, 0)
     -- The whole calls: all memory stays as it was. Under 3 and 6 it is one value too long, under 4 one too short.
     ∷ moveRefused Packed Blocked 3 0 (four ∷ two ∷ minusTwo ∷ ten ∷ five ∷ six ∷ []) (replicate 9 infinity) (2, 0, 0)
     ∷ moveRefused Blocked Packed 3 0 (four ∷ two ∷ minusTwo ∷ ten ∷ five ∷ six ∷ []) (replicate 9 infinity) (2, 0, 0)
@@ -335,6 +351,9 @@ rows =
     (one ∷ two ∷ three ∷ infinity ∷ five ∷ six ∷ 0 ∷ minusZero ∷ nine ∷ ten ∷ minusOne ∷ minusTwo ∷ four ∷ minusInfinity ∷ fifteen ∷ [])
     -- A refused column in the last, narrower block column: the block column before it stays finished.
     ∷ factors Blocked 3 2 6 (four ∷ two ∷ ten ∷ minusTwo ∷ five ∷ 0 ∷ []) (10, 2, minusFive) (two ∷ one ∷ three ∷ minusOne ∷ two ∷ 0 ∷ [])
+    -- A factor refused at place 0 ends its pipeline too.
+    ∷ ends (plainPipeline 1 1 1 (memory (0 ∷ [])) (memory (one ∷ [])) (used 1)) 1 (10, 0, 0) (10, 0, 0) (0 ∷ []) (one ∷ [])
+    ∷ ends (blockedPipeline 1 1 1 (memory (0 ∷ [])) (memory (one ∷ [])) (used 1)) 1 (10, 0, 0) (10, 0, 0) (0 ∷ []) (one ∷ [])
     -- A refused factor ends its pipeline, the blocked one in blocked order; after a refused solver the factor stands in packed order.
     ∷ ends (plainPipeline 3 2 1 (memory (four ∷ two ∷ minusTwo ∷ ten ∷ five ∷ 0 ∷ [])) (memory (four ∷ seventeen ∷ nine ∷ [])) (used 3)) 3
     (10, 2, minusFive) (10, 2, minusFive) (two ∷ one ∷ minusOne ∷ three ∷ two ∷ 0 ∷ []) (four ∷ seventeen ∷ nine ∷ [])
@@ -353,11 +372,12 @@ rows =
     (four ∷ 0 ∷ twoToMinus1000 ∷ two ∷ twoTo600 ∷ one ∷ [])
     -- 10 stands before 11 within a column.
     ∷ factors Packed 2 1 2 (0 ∷ one ∷ one ∷ []) (10, 0, 0) (0 ∷ one ∷ one ∷ [])
+    ∷ factors Blocked 2 2 4 (0 ∷ one ∷ one ∷ []) (10, 0, 0) (0 ∷ one ∷ one ∷ [])
     -- l(3,2) is 1 − 2^−54 − 1: +0 with rising k, −2^−54 with falling k or the products summed first.
     ∷ factors Packed 4 1 4 (one ∷ 0 ∷ one ∷ twoToMinus54 ∷ one ∷ one ∷ one ∷ three ∷ one ∷ four ∷ []) success
     (one ∷ 0 ∷ one ∷ twoToMinus54 ∷ one ∷ one ∷ one ∷ one ∷ 0 ∷ 0x3FFB_B67A_E858_4CAA ∷ [])
     ∷ []
 
 pub examples-hold : T (all (λ r. r) rows)
-unfolding rows rearrange rearrangerChecks moved factorize factorChecks factored columnsVerdict solve solverChecks solved rhsVerdict rhsPart solution solutions clear plainPipeline blockedPipeline firstRefusal lowestRefusal rule1 rule2 rule3 rule4 rule5 rule6 finiteRule rule9 rule11 columnRules rule12 minusProducts pivot quotient below factorColumn cholesky forward backwardRows backward iterate grow tabulate all entry height placeOf load storeColumn store positive root judged triangle packedPlace blockedPlace blockWork toBits ofBits mul sub div lt
+unfolding rows rearrange rearrangerChecks moved factorize factorChecks factored columnsVerdict solve solverChecks solved rhsVerdict rhsPart solution solutions clear plainPipeline blockedPipeline firstRefusal lowestRefusal rule1 rule2 rule3 rule4 rule5 rule6 finiteRule rule9 rule11 columnRules columnVerdict rule12 minusProducts pivot quotient below factorColumn cholesky forward backwardRows backward iterate grow tabulate all entry height placeOf load storeColumn store positive root judged triangle packedPlace blockedPlace blockWork toBits ofBits mul sub div lt
 examples-hold = tt

@@ -8,12 +8,7 @@ use mathlib.Core.Bool.{Bool, true, false, cond, not}
 use mathlib.Core.List.{List, [], _∷_, _++_}
 use borrow.Author.Tests.{not-true, not-false, le-leb, lt-leb, le-ltb, lt-ltb}
 use lib.Dec.{T, leb, ltb}
-use lib.Ieee.{Float}
-use Rattle.binary64.specs.Kinds.{positive}
-use Rattle.binary64.specs.Root.{root}
-use Rattle.binary64.specs.Judged.{judged}
-use Rattle.binary64.specs.declared.Pivot.the-variants.{Root, Refused}
-use Rattle.calls.specs.declared.CallResult.{CallResult}
+use Rattle.calls.specs.declared.Verdict.{Verdict}
 use Rattle.calls.specs.Refusals.{success, accepted, firstRefusal, lowestRefusal}
 use Rattle.calls.proofs.Refusals.{lowest-accepted, lowest-success}
 
@@ -27,25 +22,15 @@ not-leb a b =
     ]
 
 -- the test `!accepted(r)` of the code
-pub refused-of : (a : Bool) (r : CallResult) → a ≡ accepted r → not a ≡ true → accepted r ≡ false
+pub refused-of : (a : Bool) (r : Verdict) → a ≡ accepted r → not a ≡ true → accepted r ≡ false
 refused-of a r e h = sym e ∙ not-true a h
 
-pub accepted-of : (a : Bool) (r : CallResult) → a ≡ accepted r → not a ≡ false → accepted r ≡ true
+pub accepted-of : (a : Bool) (r : Verdict) → a ≡ accepted r → not a ≡ false → accepted r ≡ true
 accepted-of a r e h = sym e ∙ not-false a h
-
--- ---- a pivot
-
-pub judged-root : (x d : Float) → judged x ≡ Root d → d ≡ root x
-unfolding judged
-judged-root x d e = go (positive x) e
-  where
-    go : (b : Bool) → cond b (Root (root x)) (Refused x) ≡ Root d → d ≡ root x
-    go true e = cc
-    go false e = let z : _≡_ {A = ℕ} 0 1 = cc in absurd (omega arith)
 
 -- ---- the first of a list, judged in two parts
 
-pub first-append : (rs ss : List CallResult) → firstRefusal (rs ++ ss) ≡ cond (accepted (firstRefusal rs)) (firstRefusal ss) (firstRefusal rs)
+pub first-append : (rs ss : List Verdict) → firstRefusal (rs ++ ss) ≡ cond (accepted (firstRefusal rs)) (firstRefusal ss) (firstRefusal rs)
 unfolding firstRefusal
 first-append [] ss = refl
 first-append (r ∷ rs) ss = go (accepted r) refl (first-append rs ss)
@@ -56,7 +41,7 @@ first-append (r ∷ rs) ss = go (accepted r) refl (first-append rs ss)
     go true e ih = ih
     go false e ih = rw e
 
-pub first-success : (rs : List CallResult) → T (accepted (firstRefusal rs)) → firstRefusal rs ≡ success
+pub first-success : (rs : List Verdict) → T (accepted (firstRefusal rs)) → firstRefusal rs ≡ success
 unfolding firstRefusal
 first-success [] h = refl
 first-success (r ∷ rs) h = go (accepted r) refl h (first-success rs)
@@ -67,7 +52,7 @@ first-success (r ∷ rs) h = go (accepted r) refl h (first-success rs)
     go true e t ih = ih t
     go false e t ih = absurd (rw e at t)
 
-module _ (rs ss : List CallResult) (r : CallResult) (e : r ≡ firstRefusal rs) where
+module _ (rs ss : List Verdict) (r : Verdict) (e : r ≡ firstRefusal rs) where
   -- a refusal of the first part decides
   pub first-decided : accepted r ≡ false → r ≡ firstRefusal (rs ++ ss)
   first-decided h = let g : accepted (firstRefusal rs) ≡ false = cc in rw (first-append rs ss, g) e
@@ -77,7 +62,7 @@ module _ (rs ss : List CallResult) (r : CallResult) (e : r ≡ firstRefusal rs) 
   first-continued h = let g : accepted (firstRefusal rs) ≡ true = cc in rw (first-append rs ss, g)
 
 -- a rule that stands alone, success where it accepts
-pub first-alone : (r : CallResult) → (T (accepted r) → r ≡ success) → firstRefusal (r ∷ []) ≡ r
+pub first-alone : (r : Verdict) → (T (accepted r) → r ≡ success) → firstRefusal (r ∷ []) ≡ r
 unfolding firstRefusal
 first-alone r h = go (accepted r) refl
   where
@@ -87,7 +72,7 @@ first-alone r h = go (accepted r) refl
 
 -- ---- the lowest of many, looked for in rising order
 
-module _ (judge : ℕ → CallResult) where
+module _ (judge : ℕ → Verdict) where
   pub lowest-next : (k : ℕ) → lowestRefusal judge k ≡ success → lowestRefusal judge (k + 1) ≡ judge k
   unfolding lowestRefusal
   lowest-next k e = rw (add-one k) (rw e)

@@ -2,6 +2,7 @@ pub mod Sequences
 pub mod Writes
 pub mod Triangles
 pub mod Refusals
+pub mod ColumnRules
 pub mod Columns
 pub mod Checks
 pub mod Judging

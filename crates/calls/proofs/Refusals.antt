@@ -9,7 +9,7 @@ use lib.Dec.{T, eqb·suc-zero}
 use lib.ListN.{length, getD}
 use lib.Ieee.{Float, nan}
 use Rattle.binary64.specs.Kinds.{finite, zero64}
-use Rattle.calls.specs.declared.CallResult.{CallResult}
+use Rattle.calls.specs.declared.Verdict.{Verdict}
 use Rattle.calls.specs.Sequences.{all}
 use Rattle.calls.specs.Refusals.{success, accepted, refusal, refuseIf, firstRefusal, lowestRefusal, finiteRule}
 use Rattle.calls.proofs.Sequences.{all-at}
@@ -24,7 +24,7 @@ pub is-not-not : (b : Bool) → T b → T (not (not b))
 is-not-not true t = tt
 is-not-not false t = t
 
-pub refuse-not : (c : Bool) (r : CallResult) → T (not c) → refuseIf c r ≡ success
+pub refuse-not : (c : Bool) (r : Verdict) → T (not c) → refuseIf c r ≡ success
 refuse-not true r h = absurd h
 refuse-not false r h = refl
 
@@ -35,11 +35,11 @@ not-refused false code place value h = tt
 
 -- ---- the first of a list
 
-pub first-passes : (r : CallResult) (rs : List CallResult) → r ≡ success → firstRefusal (r ∷ rs) ≡ firstRefusal rs
+pub first-passes : (r : Verdict) (rs : List Verdict) → r ≡ success → firstRefusal (r ∷ rs) ≡ firstRefusal rs
 unfolding firstRefusal
 first-passes r rs e = rw e refl
 
-pub first-accepted : (r : CallResult) (rs : List CallResult) → T (accepted (firstRefusal (r ∷ rs))) → T (accepted r) × T (accepted (firstRefusal rs))
+pub first-accepted : (r : Verdict) (rs : List Verdict) → T (accepted (firstRefusal (r ∷ rs))) → T (accepted r) × T (accepted (firstRefusal rs))
 unfolding firstRefusal
 first-accepted r rs h = go (accepted r) refl h
   where
@@ -49,18 +49,18 @@ first-accepted r rs h = go (accepted r) refl h
 
 -- ---- the lowest of many
 
-pub lowest-success : (judge : ℕ → CallResult) (n : ℕ) → ((k : ℕ) → k < n → judge k ≡ success) → lowestRefusal judge n ≡ success
+pub lowest-success : (judge : ℕ → Verdict) (n : ℕ) → ((k : ℕ) → k < n → judge k ≡ success) → lowestRefusal judge n ≡ success
 unfolding lowestRefusal
 lowest-success judge zero h = refl
 lowest-success judge (suc k) h = rw (lowest-success judge k (λ i p. h i (omega arith))) (h k (omega arith))
 
-pub lowest-same : (judge judge′ : ℕ → CallResult) (n : ℕ) → ((k : ℕ) → k < n → judge k ≡ judge′ k) → lowestRefusal judge n ≡ lowestRefusal judge′ n
+pub lowest-same : (judge judge′ : ℕ → Verdict) (n : ℕ) → ((k : ℕ) → k < n → judge k ≡ judge′ k) → lowestRefusal judge n ≡ lowestRefusal judge′ n
 unfolding lowestRefusal
 lowest-same judge judge′ zero h = refl
 lowest-same judge judge′ (suc k) h =
-    ap₂ (λ (b r : CallResult). cond (accepted b) r b) (lowest-same judge judge′ k (λ i p. h i (omega arith))) (h k (omega arith))
+    ap₂ (λ (b r : Verdict). cond (accepted b) r b) (lowest-same judge judge′ k (λ i p. h i (omega arith))) (h k (omega arith))
 
-pub lowest-accepted : (judge : ℕ → CallResult) (n : ℕ) → T (accepted (lowestRefusal judge n)) → (k : ℕ) → k < n → T (accepted (judge k))
+pub lowest-accepted : (judge : ℕ → Verdict) (n : ℕ) → T (accepted (lowestRefusal judge n)) → (k : ℕ) → k < n → T (accepted (judge k))
 unfolding lowestRefusal
 lowest-accepted judge zero t k h = absurd (omega arith)
 lowest-accepted judge (suc n) t k h =
@@ -77,18 +77,18 @@ lowest-accepted judge (suc n) t k h =
     both = go (accepted (lowestRefusal judge n)) refl t
 
 -- what is refused is refused at its lowest place, and all before it pass
-pub record Lowest (judge : ℕ → CallResult) (n : ℕ) (r : CallResult) : Type 0 where
+pub record Lowest (judge : ℕ → Verdict) (n : ℕ) (r : Verdict) : Type 0 where
   pub at : ℕ
   pub inside : at < n
   pub there : r ≡ judge at
   pub before : (k : ℕ) → k < at → T (accepted (judge k))
 
-pub lowest-refused : (judge : ℕ → CallResult) (n : ℕ) → T (not (accepted (lowestRefusal judge n))) → Lowest judge n (lowestRefusal judge n)
+pub lowest-refused : (judge : ℕ → Verdict) (n : ℕ) → T (not (accepted (lowestRefusal judge n))) → Lowest judge n (lowestRefusal judge n)
 unfolding lowestRefusal
 lowest-refused judge zero t = absurd t
 lowest-refused judge (suc n) t = go (accepted (lowestRefusal judge n)) refl (lowest-refused judge n)
   where
-    last : CallResult
+    last : Verdict
     last = lowestRefusal judge n
 
     go : (b : Bool) → accepted last ≡ b → (T (not (accepted last)) → Lowest judge n last) → Lowest judge (suc n) (cond b (judge n) last)

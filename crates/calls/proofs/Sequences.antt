@@ -1,15 +1,15 @@
 -- Laws of specs/Sequences.antt: lengths and elements of grown lists, and what `all` says of each element. Assumes nothing.
-use Prim.Native.Nat.{ℕ, zero, suc, _+_, _≤_, _<_}
-use native.Mathlib.Nat.{add-zero, add-suc, zero-add, suc-add}
+use Prim.Native.Nat.{ℕ, zero, suc, _+_, _<_}
+use native.Mathlib.Nat.{zero-add, suc-add}
 use native.Mathlib.Numerals.{add-one}
 use native.Mathlib.Omega.{arith}
 use native.Mathlib.Decide.{decLt}
 use mathlib.Core.Path.{_≡_, refl, sym, ap, ap₂, _∙_}
 use mathlib.Core.Bool.{Bool, _&&_, and-true, and-assoc}
-use mathlib.Core.List.{List, [], _∷_, _++_, append-assoc, append-nil}
+use mathlib.Core.List.{List, [], _∷_, _++_}
 use lib.Dec.{T}
 use lib.ListN.{length, getD, take, drop, length-append, List·getD-append}
-use lib.Seq.{getD-at, ext-getD, take-append-le, take-all, take-suc, take-nil, drop-nil}
+use lib.Seq.{getD-at, ext-getD, take-suc, take-nil, drop-nil}
 use lib.Ieee.Fits.{and-i, and-l, and-r}
 use Rattle.calls.specs.Sequences.{grow, tabulate, all}
 
@@ -28,17 +28,6 @@ module _ {A : Type 0} (next : ℕ → List A → A) where
       elim (decLt i k) [
         | yes p ↦ List·getD-append (grow next k) _ d i (omega (arith, length-grow k)) ∙ getD-grow k i d p
         | no p ↦ let e : i ≡ k = omega arith in rw e (getD-at (grow next k) (next k (grow next k)) [] d k (length-grow k))
-      ]
-
-  pub take-grow : (n i : ℕ) → i ≤ n → take i (grow next n) ≡ grow next i
-  unfolding grow
-  take-grow zero i h = let e : i ≡ 0 = omega arith in rw e
-  take-grow (suc k) i h =
-      elim (decLt k i) [
-        | yes p ↦
-            let e : i ≡ suc k = omega arith in
-            rw e (take-all (suc k) (grow next (suc k)) (omega (arith, length-grow (suc k))))
-        | no p ↦ take-append-le i (grow next k) _ (omega (arith, length-grow k)) ∙ take-grow k i (omega arith)
       ]
 
 module _ {A : Type 0} (f : ℕ → A) where
@@ -62,14 +51,6 @@ unfolding tabulate grow
 tabulate-same f g zero same = refl
 tabulate-same f g (suc k) same =
     ap₂ (λ xs x. xs ++ (x ∷ [])) (tabulate-same f g k (λ i h. same i (omega arith))) (same k (omega arith))
-
--- a table in two parts
-pub tabulate-append :
-    {A : Type 0} (f : ℕ → A) (a b : ℕ) → tabulate (a + b) f ≡ tabulate a f ++ tabulate b (λ i. f (a + i))
-unfolding tabulate grow
-tabulate-append f a zero = rw add-zero (sym (append-nil (tabulate a f)))
-tabulate-append f a (suc k) =
-    rw add-suc (ap (λ xs. xs ++ (f (a + k) ∷ [])) (tabulate-append f a k) ∙ append-assoc (tabulate a f) (tabulate k (λ i. f (a + i))) (f (a + k) ∷ []))
 
 -- ---- all
 

@@ -1,12 +1,14 @@
 -- The six calls, for all inputs: what each returns and what it leaves in every memory. Codes 1 to 9 leave all memory untouched.
 use Prim.Native.Nat.{ℕ, _*_}
 use mathlib.Core.Path.{_≡_}
-use mathlib.Core.Bool.{cond}
+use mathlib.Core.Bool.{Bool, cond}
 use mathlib.Core.List.{List, [], _∷_, _++_}
+use lib.Dec.{eqb}
 use lib.ListN.{length, take, drop, replicate}
 use lib.Ieee.{Float}
 use Rattle.binary64.specs.Kinds.{zero64}
 use Rattle.shape.specs.Places.{blockOf}
+use Rattle.calls.specs.declared.Verdict.{Verdict}
 use Rattle.calls.specs.declared.CallResult.{CallResult}
 use Rattle.calls.specs.Sequences.{iterate}
 use Rattle.calls.specs.declared.Layout.{Layout}
@@ -14,7 +16,14 @@ use Rattle.calls.specs.declared.Layout.the-variants.{Packed, Blocked}
 use Rattle.calls.specs.Triangles.{Triangle, placeOf, height, load, store}
 use Rattle.calls.specs.Arithmetic.{cholesky, forward, backward}
 use Rattle.calls.specs.declared.Call.the-variants.{Rearranger, Factor, Solver}
-use Rattle.calls.specs.Refusals.{neededWork, success, accepted, firstRefusal, lowestRefusal, rule1, rule2, rule3, rule4, rule5, rule6, rule7, rule8, rule9, columnRules, rule12}
+use Rattle.calls.specs.Refusals.{neededWork, success, accepted, firstRefusal, lowestRefusal, rule1, rule2, rule3, rule4, rule5, rule6, rule7, rule8, rule9, columnVerdict, rule12}
+
+-- What a call returns, made from its verdict here alone.
+abbrev pub resultOf : Verdict → CallResult
+resultOf v = record { code = v .code; place = v .place; value = v .value }
+
+abbrev pub succeeded : CallResult → Bool
+succeeded r = eqb (r .code) 0
 
 -- what a rearranger or a factor returns and leaves
 pub record Done : Type 0 where
@@ -45,7 +54,7 @@ clear needed work = replicate needed zero64 ++ drop needed work
 
 -- ---- the rearrangers
 
-unfoldable pub rearrangerChecks : ℕ → ℕ → ℕ → ℕ → CallResult
+unfoldable pub rearrangerChecks : ℕ → ℕ → ℕ → ℕ → Verdict
 rearrangerChecks n b matrixLength workLength = firstRefusal (rule1 n ∷ rule2 Rearranger b ∷ rule3 n matrixLength ∷ rule4 Rearranger n b workLength ∷ [])
 
 -- every entry moves from its place in one layout to its place in the other
@@ -56,8 +65,8 @@ unfoldable pub rearrange : Layout → Layout → ℕ → ℕ → List Float → 
 rearrange from to n b matrix work =
     let checks = rearrangerChecks n b (length matrix) (length work) in
     cond (accepted checks)
-    (record { result = success; matrix = moved from to n b matrix; work = clear (neededWork Rearranger n b) work })
-    (record { result = checks; matrix = matrix; work = work })
+    (record { result = resultOf success; matrix = moved from to n b matrix; work = clear (neededWork Rearranger n b) work })
+    (record { result = resultOf checks; matrix = matrix; work = work })
 
 abbrev pub packedToBlocked : ℕ → ℕ → List Float → List Float → Done
 packedToBlocked = rearrange Packed Blocked
@@ -67,16 +76,16 @@ blockedToPacked = rearrange Blocked Packed
 
 -- ---- the factors
 
-unfoldable pub factorChecks : Layout → ℕ → ℕ → List Float → ℕ → CallResult
+unfoldable pub factorChecks : Layout → ℕ → ℕ → List Float → ℕ → Verdict
 factorChecks layout n b matrix workLength =
     firstRefusal (rule1 n ∷ rule2 (Factor layout) b ∷ rule3 n (length matrix) ∷ rule4 (Factor layout) n b workLength ∷ rule7 matrix ∷ [])
 
 -- codes 10 and 11: each column is judged from the columns before it
-unfoldable pub columnsVerdict : ℕ → Triangle → CallResult
-columnsVerdict n a = lowestRefusal (λ j. columnRules (height n) a (cholesky (height n) a j) j) n
+unfoldable pub columnsVerdict : ℕ → Triangle → Verdict
+columnsVerdict n a = lowestRefusal (λ j. columnVerdict (height n) a (cholesky (height n) a j) j) n
 
 -- The columns that are finished in the end: all; or after 10 or 11 those before the place, of the blocked factor those before its block column.
-abbrev pub finished : Layout → ℕ → ℕ → CallResult → ℕ
+abbrev pub finished : Layout → ℕ → ℕ → Verdict → ℕ
 finished Packed n b verdict = cond (accepted verdict) n (verdict .place)
 finished Blocked n b verdict = cond (accepted verdict) n (blockOf b (verdict .place))
 
@@ -85,7 +94,7 @@ factored layout n b matrix work =
     let a = load (placeOf layout n b) (height n) n matrix in
     let verdict = columnsVerdict n a in
     record {
-      result = verdict;
+      result = resultOf verdict;
       matrix = store (placeOf layout n b) (cholesky (height n) a (finished layout n b verdict)) matrix;
       work = clear (neededWork (Factor layout) n b) work;
     }
@@ -93,11 +102,11 @@ factored layout n b matrix work =
 unfoldable pub factorize : Layout → ℕ → ℕ → List Float → List Float → Done
 factorize layout n b matrix work =
     let checks = factorChecks layout n b matrix (length work) in
-    cond (accepted checks) (factored layout n b matrix work) (record { result = checks; matrix = matrix; work = work })
+    cond (accepted checks) (factored layout n b matrix work) (record { result = resultOf checks; matrix = matrix; work = work })
 
 -- ---- the solvers
 
-unfoldable pub solverChecks : Layout → ℕ → ℕ → ℕ → List Float → List Float → ℕ → CallResult
+unfoldable pub solverChecks : Layout → ℕ → ℕ → ℕ → List Float → List Float → ℕ → Verdict
 solverChecks layout n b m matrix rhs workLength =
     firstRefusal
     (rule1 n ∷ rule2 (Solver layout) b ∷ rule3 n (length matrix) ∷ rule4 (Solver layout) n b workLength ∷ rule5 m ∷
@@ -111,7 +120,7 @@ unfoldable pub solution : ℕ → Triangle → List Float → List Float
 solution n l rhs = backward n l (forward n l rhs)
 
 -- code 12
-unfoldable pub rhsVerdict : ℕ → ℕ → Triangle → List Float → CallResult
+unfoldable pub rhsVerdict : ℕ → ℕ → Triangle → List Float → Verdict
 rhsVerdict n m l rhs = lowestRefusal (λ q. rule12 q (forward n l (rhsPart n q rhs)) (solution n l (rhsPart n q rhs))) m
 
 -- the solutions of the first count right-hand sides, and the others as they were
@@ -123,7 +132,7 @@ solved layout n b m matrix rhs work =
     let l = load (placeOf layout n b) (height n) n matrix in
     let verdict = rhsVerdict n m l rhs in
     record {
-      result = verdict;
+      result = resultOf verdict;
       rhs = solutions n l (cond (accepted verdict) m (verdict .place)) rhs;
       work = clear (neededWork (Solver layout) n b) work;
     }
@@ -131,4 +140,4 @@ solved layout n b m matrix rhs work =
 unfoldable pub solve : Layout → ℕ → ℕ → ℕ → List Float → List Float → List Float → Solved
 solve layout n b m matrix rhs work =
     let checks = solverChecks layout n b m matrix rhs (length work) in
-    cond (accepted checks) (solved layout n b m matrix rhs work) (record { result = checks; rhs = rhs; work = work })
+    cond (accepted checks) (solved layout n b m matrix rhs work) (record { result = resultOf checks; rhs = rhs; work = work })

@@ -12,8 +12,7 @@ use Rattle.shape.specs.Places.{triangle, blockWork}
 use Rattle.calls.specs.declared.CallResult.{CallResult}
 use Rattle.calls.specs.Sequences.{all}
 use Rattle.calls.specs.declared.Layout.the-variants.{Packed, Blocked}
-use Rattle.calls.specs.Refusals.{accepted}
-use Rattle.calls.specs.Calls.{packedToBlocked, blockedToPacked, factorize, solve}
+use Rattle.calls.specs.Calls.{succeeded, packedToBlocked, blockedToPacked, factorize, solve}
 
 -- A pipeline's results and memory at its end. Where the factor is refused the solver does not run, and its result is given as the factor's.
 pub record Ended : Type 0 where
@@ -28,7 +27,7 @@ unfoldable pub plainPipeline : ℕ → ℕ → ℕ → List Float → List Float
 plainPipeline n b m matrix rhs work =
     let f = factorize Packed n b matrix work in
     let s = solve Packed n b m (f .matrix) rhs (f .work) in
-    cond (accepted (f .result))
+    cond (succeeded (f .result))
     (record { factorResult = f .result; solverResult = s .result; matrix = f .matrix; rhs = s .rhs; work = s .work })
     (record { factorResult = f .result; solverResult = f .result; matrix = f .matrix; rhs = rhs; work = f .work })
 
@@ -39,7 +38,7 @@ blockedPipeline n b m matrix rhs work =
     let f = factorize Blocked n b (p .matrix) (p .work) in
     let s = solve Blocked n b m (f .matrix) rhs (f .work) in
     let q = blockedToPacked n b (f .matrix) (s .work) in
-    cond (accepted (f .result))
+    cond (succeeded (f .result))
     (record { factorResult = f .result; solverResult = s .result; matrix = q .matrix; rhs = s .rhs; work = q .work })
     (record { factorResult = f .result; solverResult = f .result; matrix = f .matrix; rhs = rhs; work = f .work })
 
@@ -59,9 +58,9 @@ pub record Start (n b m : ℕ) (matrix rhs plainWork blockedWork : List Float) :
 -- What is compared: the factors' results; where these accept, the solvers' results, all right-hand-side memory and all matrix memory.
 pub record Agreement (plain block : Ended) : Type 0 where
   pub factors : plain .factorResult ≡ block .factorResult
-  pub solvers : T (accepted (plain .factorResult)) → plain .solverResult ≡ block .solverResult
-  pub rhs : T (accepted (plain .factorResult)) → plain .rhs ≡ block .rhs
-  pub matrix : T (accepted (plain .factorResult)) → plain .matrix ≡ block .matrix
+  pub solvers : T (succeeded (plain .factorResult)) → plain .solverResult ≡ block .solverResult
+  pub rhs : T (succeeded (plain .factorResult)) → plain .rhs ≡ block .rhs
+  pub matrix : T (succeeded (plain .factorResult)) → plain .matrix ≡ block .matrix
 
 -- Demand 3, one statement over both pipelines from start to end. The logic's floats have more numbers than binary64, so it says that the
 -- matrix holds values of binary64, as every memory of f64 does.

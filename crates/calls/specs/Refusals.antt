@@ -11,7 +11,7 @@ use Rattle.binary64.specs.declared.Pivot.{Pivot}
 use Rattle.binary64.specs.declared.Pivot.the-variants.{Root, Refused}
 use Rattle.shape.specs.Bounds.{maxOrder, maxBlock, maxRhs}
 use Rattle.shape.specs.Places.{triangle, blockWork}
-use Rattle.calls.specs.declared.CallResult.{CallResult}
+use Rattle.calls.specs.declared.Verdict.{Verdict}
 use Rattle.calls.specs.Sequences.{all}
 use Rattle.calls.specs.declared.Call.{Call}
 use Rattle.calls.specs.declared.Call.the-variants.{Rearranger, Factor, Solver}
@@ -19,26 +19,26 @@ use Rattle.calls.specs.declared.Layout.the-variants.{Packed, Blocked}
 use Rattle.calls.specs.Triangles.{Triangle}
 use Rattle.calls.specs.Arithmetic.{pivot, below}
 
--- Each call returns a code, a place and a binary64 value; success is 0, 0, +0.
-abbrev pub success : CallResult
+-- A rule answers a code, a place and a binary64 value, its verdict; success is 0, 0, +0. What a call returns is made from its verdict in Calls.antt.
+abbrev pub success : Verdict
 success = record { code = 0; place = 0; value = zero64 }
 
-abbrev pub accepted : CallResult → Bool
+abbrev pub accepted : Verdict → Bool
 accepted r = eqb (r .code) 0
 
-abbrev pub refusal : ℕ → ℕ → Float → CallResult
+abbrev pub refusal : ℕ → ℕ → Float → Verdict
 refusal code place value = record { code = code; place = place; value = value }
 
-abbrev pub refuseIf : Bool → CallResult → CallResult
+abbrev pub refuseIf : Bool → Verdict → Verdict
 refuseIf condition r = cond condition r success
 
 -- the first of a list that refuses decides
-unfoldable pub firstRefusal : List CallResult → CallResult
+unfoldable pub firstRefusal : List Verdict → Verdict
 firstRefusal [] = success
 firstRefusal (r ∷ rs) = cond (accepted r) (firstRefusal rs) r
 
 -- the lowest of k = 0 .. count − 1 that is refused decides, and none after it is judged
-unfoldable pub lowestRefusal : (ℕ → CallResult) → ℕ → CallResult
+unfoldable pub lowestRefusal : (ℕ → Verdict) → ℕ → Verdict
 lowestRefusal judge zero = success
 lowestRefusal judge (suc k) = let before = lowestRefusal judge k in cond (accepted before) (judge k) before
 
@@ -57,56 +57,60 @@ neededWork (Factor Blocked) n b = blockWork n b
 neededWork (Solver layout) n b = n
 
 -- 1. n is over 4,000.
-unfoldable pub rule1 : ℕ → CallResult
+unfoldable pub rule1 : ℕ → Verdict
 rule1 n = refuseIf (ltb maxOrder n) (refusal 1 0 zero64)
 
 -- 2. A call that works by blocks has b = 0 or b over 200; other calls do not judge b.
-unfoldable pub rule2 : Call → ℕ → CallResult
+unfoldable pub rule2 : Call → ℕ → Verdict
 rule2 call b = refuseIf (byBlocks call && (eqb b 0 || ltb maxBlock b)) (refusal 2 0 zero64)
 
 -- 3. The matrix memory is not exactly n(n + 1)/2 values.
-unfoldable pub rule3 : ℕ → ℕ → CallResult
+unfoldable pub rule3 : ℕ → ℕ → Verdict
 rule3 n matrixLength = refuseIf (not (eqb matrixLength (triangle n))) (refusal 3 0 zero64)
 
 -- 4. The work memory has fewer than the needed values.
-unfoldable pub rule4 : Call → ℕ → ℕ → ℕ → CallResult
+unfoldable pub rule4 : Call → ℕ → ℕ → ℕ → Verdict
 rule4 call n b workLength = refuseIf (ltb workLength (neededWork call n b)) (refusal 4 0 zero64)
 
 -- 5. A solver has m over 1,000.
-unfoldable pub rule5 : ℕ → CallResult
+unfoldable pub rule5 : ℕ → Verdict
 rule5 m = refuseIf (ltb maxRhs m) (refusal 5 0 zero64)
 
 -- 6. A solver's right-hand sides are not exactly n × m values.
-unfoldable pub rule6 : ℕ → ℕ → ℕ → CallResult
+unfoldable pub rule6 : ℕ → ℕ → ℕ → Verdict
 rule6 n m rhsLength = refuseIf (not (eqb rhsLength (n * m))) (refusal 6 0 zero64)
 
 -- 7, 8. A value that is not finite (place: lowest position in memory as handed in): of the matrix, and of the right-hand sides.
-unfoldable pub finiteRule : ℕ → List Float → CallResult
+unfoldable pub finiteRule : ℕ → List Float → Verdict
 finiteRule code memory = lowestRefusal (λ p. refuseIf (not (finite (getD memory p nan))) (refusal code p zero64)) (length memory)
 
-abbrev pub rule7 : List Float → CallResult
+abbrev pub rule7 : List Float → Verdict
 rule7 matrix = finiteRule 7 matrix
 
-abbrev pub rule8 : List Float → CallResult
+abbrev pub rule8 : List Float → Verdict
 rule8 rhs = finiteRule 8 rhs
 
 -- 9. A solver finds a diagonal value not greater than zero (place: lowest such column).
-unfoldable pub rule9 : (ℕ → ℕ → ℕ) → ℕ → List Float → CallResult
+unfoldable pub rule9 : (ℕ → ℕ → ℕ) → ℕ → List Float → Verdict
 rule9 place n matrix = lowestRefusal (λ j. refuseIf (not (positive (getD matrix (place j j) nan))) (refusal 9 j zero64)) n
 
 -- 10. A column's pivot is not greater than zero (place: the column; value: the pivot's bits).
-abbrev pub rule10 : ℕ → Pivot → CallResult
+abbrev pub rule10 : ℕ → Pivot → Verdict
 rule10 j (Root r) = success
 rule10 j (Refused v) = refusal 10 j v
 
 -- 11. A column's pivot passes but an entry below it is not finite (place: the column).
-unfoldable pub rule11 : ℕ → List Float → CallResult
-rule11 j entries = refuseIf (not (all finite entries)) (refusal 11 j zero64)
+unfoldable pub rule11 : ℕ → Bool → Verdict
+rule11 j finiteBelow = refuseIf (not finiteBelow) (refusal 11 j zero64)
 
 -- a column's rules, in checking order
-unfoldable pub columnRules : (ℕ → ℕ) → Triangle → Triangle → ℕ → CallResult
-columnRules heightOf a l j = firstRefusal (rule10 j (judged (pivot a l j)) ∷ rule11 j (below heightOf a j l) ∷ [])
+unfoldable pub columnRules : ℕ → Pivot → Bool → Verdict
+columnRules j judgedPivot finiteBelow = firstRefusal (rule10 j judgedPivot ∷ rule11 j finiteBelow ∷ [])
+
+-- column j judged, the columns of l before it being known
+unfoldable pub columnVerdict : (ℕ → ℕ) → Triangle → Triangle → ℕ → Verdict
+columnVerdict heightOf a l j = columnRules j (judged (pivot a l j)) (all finite (below heightOf a j l))
 
 -- 12. A right-hand side meets a y or x that is not finite (place: number of the right-hand side).
-unfoldable pub rule12 : ℕ → List Float → List Float → CallResult
+unfoldable pub rule12 : ℕ → List Float → List Float → Verdict
 rule12 q y x = refuseIf (not (all finite y && all finite x)) (refusal 12 q zero64)

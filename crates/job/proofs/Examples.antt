@@ -15,7 +15,7 @@ use Rattle.shape.specs.Places.{triangle, packedPlace, blockedPlace, blockWork}
 use Rattle.calls.specs.Sequences.{iterate, grow, tabulate, all}
 use Rattle.calls.specs.Triangles.{entry, height, placeOf, load, storeColumn, store}
 use Rattle.calls.specs.Arithmetic.{minusProducts, pivot, quotient, below, factorColumn, cholesky, forward, backwardRows, backward}
-use Rattle.calls.specs.Refusals.{firstRefusal, lowestRefusal, rule1, rule2, rule3, rule4, rule5, rule6, finiteRule, rule9, rule11, columnRules, rule12}
+use Rattle.calls.specs.Refusals.{firstRefusal, lowestRefusal, rule1, rule2, rule3, rule4, rule5, rule6, finiteRule, rule9, rule11, columnRules, columnVerdict, rule12}
 use Rattle.calls.specs.Calls.{rearrange, rearrangerChecks, moved, factorize, factorChecks, factored, columnsVerdict, solve, solverChecks, solved, rhsVerdict, rhsPart, solution, solutions, clear}
 use Rattle.calls.specs.Pipelines.{blockedPipeline}
 use Rattle.job.specs.Reading.{littleEndian, field, bounded, value, values}
@@ -81,21 +81,26 @@ table =
     row (job 2) "JOB 3 2 1\nF 4000000000000000\nF 3FF0000000000000\nF BFF0000000000000\nF 4008000000000000\nF 4000000000000000\nF 3FF0000000000000\nX 3FF0000000000000\nX 3FF0000000000000\nX 3FF0000000000000\nEND 0 0\n" ∷
     row (job 3) "JOB 3 3 1\nF 4000000000000000\nF 3FF0000000000000\nF BFF0000000000000\nF 4008000000000000\nF 4000000000000000\nF 3FF0000000000000\nX 3FF0000000000000\nX 3FF0000000000000\nX 3FF0000000000000\nEND 0 0\n" ∷
     row (job 200) "JOB 3 200 1\nF 4000000000000000\nF 3FF0000000000000\nF BFF0000000000000\nF 4008000000000000\nF 4000000000000000\nF 3FF0000000000000\nX 3FF0000000000000\nX 3FF0000000000000\nX 3FF0000000000000\nEND 0 0\n" ∷
-    -- n 0; an entry with no bit is +0
+    -- n 0, which has no map to be padded; an entry with no bit is +0; n 4, diagonal 4, 9, 16, 25, whose map has two bytes
     row (file 0 1 0 [] []) "JOB 0 1 0\nEND 0 0\n" ∷
+    row (file 0 1 1 [] []) "JOB 0 1 1\nEND 0 0\n" ∷
     row (file 2 1 0 (0x05 ∷ []) (0x4010_0000_0000_0000 ∷ 0x4022_0000_0000_0000 ∷ [])) "JOB 2 1 0\nF 4000000000000000\nF 0000000000000000\nF 4008000000000000\nEND 0 0\n" ∷
-    -- 13: a file that ends early, one with an extra byte, padding, and sizes, which are judged before what is missing after them
+    row (file 4 2 0 (0x91 ∷ 0x02 ∷ []) (0x4010_0000_0000_0000 ∷ 0x4022_0000_0000_0000 ∷ 0x4030_0000_0000_0000 ∷ 0x4039_0000_0000_0000 ∷ [])) "JOB 4 2 0\nF 4000000000000000\nF 0000000000000000\nF 0000000000000000\nF 0000000000000000\nF 4008000000000000\nF 0000000000000000\nF 0000000000000000\nF 4010000000000000\nF 0000000000000000\nF 4014000000000000\nEND 0 0\n" ∷
+    -- 13: a file that ends early, one with an extra byte, padding in a map of one byte and of two, and sizes, which are judged before what is missing after them
     row [] "END 13 0\n" ∷
     row (take 3 (job 2)) "END 13 3\n" ∷
     row (take 5 (job 2)) "END 13 5\n" ∷
     row (take 77 (job 2)) "END 13 77\n" ∷
     row (job 2 ++ (0 ∷ [])) "END 13 78\n" ∷
     row (file 3 2 1 (0x7f ∷ []) []) "END 13 5\n" ∷
+    row (file 4 2 0 (0x00 ∷ 0x80 ∷ []) []) "END 13 6\n" ∷
     row (65 ∷ 0 ∷ []) "END 13 0\n" ∷
+    row (file 64 200 16 [] []) "END 13 5\n" ∷
     row (file 3 0 17 [] []) "END 13 2\n" ∷
     row (file 3 201 1 [] []) "END 13 2\n" ∷
     row (file 3 200 17 [] []) "END 13 4\n" ∷
-    -- 7 and 8: an infinity at the last packed entry, though it is not the last in blocked order; a NaN among the right-hand sides; 7 before 8
+    -- 7 and 8: an infinity at packed place 2, which is place 3 in blocked order; at the last packed entry; a NaN among the right-hand sides; 7 before 8
+    row (file 3 2 0 (0x05 ∷ []) (0x3ff0_0000_0000_0000 ∷ 0x7ff0_0000_0000_0000 ∷ [])) "JOB 3 2 0\nEND 7 2\n" ∷
     row (file 2 1 1 (0x06 ∷ []) (0x3ff0_0000_0000_0000 ∷ 0x7ff0_0000_0000_0000 ∷ 0 ∷ 0 ∷ [])) "JOB 2 1 1\nEND 7 2\n" ∷
     row (file 2 1 1 (0x06 ∷ []) (0x3ff0_0000_0000_0000 ∷ 0 ∷ 0 ∷ 0xfff8_0000_0000_0001 ∷ [])) "JOB 2 1 1\nEND 8 1\n" ∷
     row (file 1 1 1 (0x01 ∷ []) (0x7ff8_0000_0000_0000 ∷ 0x7ff0_0000_0000_0000 ∷ [])) "JOB 1 1 1\nEND 7 0\n" ∷
@@ -106,5 +111,5 @@ table =
     []
 
 examples : T (allListed table)
-unfolding allListed table row lists job littleEndian field bounded value values readSizes mapBytes mapBit padded readMap readValues readJob digits decimal hexDigit hexadecimal jobLine valueLine valueLines endLine jobEnded jobResult solutionLines resultLines blockedPipeline rearrange rearrangerChecks moved factorize factorChecks factored columnsVerdict solve solverChecks solved rhsVerdict rhsPart solution solutions clear firstRefusal lowestRefusal rule1 rule2 rule3 rule4 rule5 rule6 finiteRule rule9 rule11 columnRules rule12 minusProducts pivot quotient below factorColumn cholesky forward backwardRows backward iterate grow tabulate all entry height placeOf load storeColumn store positive root judged triangle packedPlace blockedPlace blockWork toBits ofBits mul sub div lt
+unfolding allListed table row lists job littleEndian field bounded value values readSizes mapBytes mapBit padded readMap readValues readJob digits decimal hexDigit hexadecimal jobLine valueLine valueLines endLine jobEnded jobResult solutionLines resultLines blockedPipeline rearrange rearrangerChecks moved factorize factorChecks factored columnsVerdict solve solverChecks solved rhsVerdict rhsPart solution solutions clear firstRefusal lowestRefusal rule1 rule2 rule3 rule4 rule5 rule6 finiteRule rule9 rule11 columnRules columnVerdict rule12 minusProducts pivot quotient below factorColumn cholesky forward backwardRows backward iterate grow tabulate all entry height placeOf load storeColumn store positive root judged triangle packedPlace blockedPlace blockWork toBits ofBits mul sub div lt
 examples = tt

@@ -12,6 +12,7 @@ use lib.Seq.{take-at}
 use lib.Ieee.{Float, binary64, ofBits}
 use borrow.Author.Tests.{lt-ltb, le-leb, lt-leb, leb-true, eq-eqb, ne-eqb}
 use Rattle.shape.specs.Places.{blockWork}
+use Rattle.calls.specs.declared.Verdict.{Verdict}
 use Rattle.calls.specs.declared.CallResult.{CallResult}
 use Rattle.calls.specs.declared.Layout.{Layout}
 use Rattle.calls.specs.declared.Layout.the-variants.{Blocked}
@@ -19,10 +20,10 @@ use Rattle.calls.specs.Sequences.{all}
 use Rattle.calls.specs.Triangles.{placeOf, height, load}
 use Rattle.binary64.specs.Kinds.{finite, zero64}
 use Rattle.calls.specs.Refusals.{success, accepted, firstRefusal, rule7, rule8, rule12}
-use Rattle.calls.specs.Calls.{Solved, packedToBlocked, blockedToPacked, factorize, solverChecks, solve, solved, rhsVerdict, rhsPart, solution}
+use Rattle.calls.specs.Calls.{resultOf, succeeded, Solved, packedToBlocked, blockedToPacked, factorize, solverChecks, solve, solved, rhsVerdict, rhsPart, solution}
 use Rattle.calls.specs.Arithmetic.{forward}
 use Rattle.calls.specs.Pipelines.{Ended, blockedPipeline}
-use Rattle.calls.proofs.Judging.{first-success, first-alone, lowest-all}
+use Rattle.calls.proofs.Judging.{lowest-all}
 use Rattle.calls.proofs.CheckLaws.{refuse-accepted, solver-success as checks-success}
 use Rattle.job.specs.declared.Sizes.{Sizes}
 use Rattle.job.specs.Reading.{Parsed, fault, found, andThen, require, field, bounded}
@@ -73,59 +74,63 @@ sizes-bounds file sizes at e = go1 (bounded file 0 2 0 64) refl e
 
 -- ---- the result
 
-solved-success : (b : Bool) (x y : Solved) → (T (accepted (x .result)) → x .result ≡ success) → (T (accepted (y .result)) → y .result ≡ success) → T (accepted (cond b x y .result)) → cond b x y .result ≡ success
-solved-success true x y f g h = f h
-solved-success false x y f g h = g h
+abbrev Succeeds : CallResult → Type 0
+Succeeds r = T (succeeded r) → r ≡ resultOf success
 
 rule12-success : (q : ℕ) (y x : List Float) → T (accepted (rule12 q y x)) → rule12 q y x ≡ success
 unfolding rule12
 rule12-success q y x h = refuse-accepted (not (all finite y && all finite x)) 11 q h
 
-solver-success :
-    (layout : Layout) (n b m : ℕ) (matrix rhs work : List Float) →
-    T (accepted (solve layout n b m matrix rhs work .result)) → solve layout n b m matrix rhs work .result ≡ success
+solver-success : (layout : Layout) (n b m : ℕ) (matrix rhs work : List Float) → Succeeds (solve layout n b m matrix rhs work .result)
 unfolding solve solved rhsVerdict
-solver-success layout n b m matrix rhs work h =
+solver-success layout n b m matrix rhs work =
     let l = load (placeOf layout n b) (height n) n matrix in
     let checks = solverChecks layout n b m matrix rhs (length work) in
-    solved-success (accepted checks) (solved layout n b m matrix rhs work) (record { result = checks; rhs = rhs; work = work })
-    (λ k. lowest-all (λ q. rule12 q (forward n l (rhsPart n q rhs)) (solution n l (rhsPart n q rhs))) (λ q a. rule12-success q (forward n l (rhsPart n q rhs)) (solution n l (rhsPart n q rhs)) a) m k)
-    (λ k. checks-success layout n b m matrix rhs (length work) k)
-    h
+    go (accepted checks) (solved layout n b m matrix rhs work) (record { result = resultOf checks; rhs = rhs; work = work })
+    (λ k.
+    ap resultOf
+    (lowest-all (λ q. rule12 q (forward n l (rhsPart n q rhs)) (solution n l (rhsPart n q rhs)))
+    (λ q. rule12-success q (forward n l (rhsPart n q rhs)) (solution n l (rhsPart n q rhs))) m k))
+    (λ k. ap resultOf (checks-success layout n b m matrix rhs (length work) k))
+  where
+    go : (b : Bool) (x y : Solved) → Succeeds (x .result) → Succeeds (y .result) → Succeeds (cond b x y .result)
+    go true x y f g = f
+    go false x y f g = g
 
--- what the pipeline's solver returns, where it is accepted, is success
-pipeline-success :
-    (n b m : ℕ) (matrix rhs work : List Float) →
-    T (accepted (blockedPipeline n b m matrix rhs work .solverResult)) → blockedPipeline n b m matrix rhs work .solverResult ≡ success
+-- what the pipeline's solver returns, where it succeeds, is success
+pipeline-success : (n b m : ℕ) (matrix rhs work : List Float) → Succeeds (blockedPipeline n b m matrix rhs work .solverResult)
 unfolding blockedPipeline
-pipeline-success n b m matrix rhs work h =
+pipeline-success n b m matrix rhs work =
     let p = packedToBlocked n b matrix work in
     let f = factorize Blocked n b (p .matrix) (p .work) in
     let s = solve Blocked n b m (f .matrix) rhs (f .work) in
     let q = blockedToPacked n b (f .matrix) (s .work) in
-    go (accepted (f .result)) refl
+    go (succeeded (f .result)) refl
     (record { factorResult = f .result; solverResult = s .result; matrix = q .matrix; rhs = s .rhs; work = q .work })
     (record { factorResult = f .result; solverResult = f .result; matrix = f .matrix; rhs = rhs; work = f .work })
-    (λ k. solver-success Blocked n b m (f .matrix) rhs (f .work) k) (λ e k. absurd (subst T e k)) h
+    (solver-success Blocked n b m (f .matrix) rhs (f .work)) (λ e k. absurd (subst T e k))
   where
-    go : (c : Bool) {d : Bool} → d ≡ c → (x y : Ended) → (T (accepted (x .solverResult)) → x .solverResult ≡ success) → (d ≡ false → T (accepted (y .solverResult)) → y .solverResult ≡ success) → T (accepted (cond c x y .solverResult)) → cond c x y .solverResult ≡ success
-    go true e x y g k h = g h
-    go false e x y g k h = k e h
+    go : (c : Bool) {d : Bool} → d ≡ c → (x y : Ended) → Succeeds (x .solverResult) → (d ≡ false → Succeeds (y .solverResult)) →
+        Succeeds (cond c x y .solverResult)
+    go true e x y g k = g
+    go false e x y g k = k e
 
 -- a refusal of 7 or 8 is the job's result, and memory is not looked at
-module _ (job : Job) (r : CallResult) (m x : List Float) (no : r .code ≡ 0 → ⊥) where
-  not-accepted : {A : Type 0} → T (accepted r) → A
-  not-accepted h = absurd (no (eqb→eq (r .code) 0 h))
+module _ (job : Job) (v : Verdict) (m x : List Float) (no : v .code ≡ 0 → ⊥) where
+  not-accepted : {A : Type 0} → T (accepted v) → A
+  not-accepted h = absurd (no (eqb→eq (v .code) 0 h))
 
-  pub refused-by-7 : r ≡ rule7 (job .matrix) → JobSolved job r m x
+  pub refused-by-7 : v ≡ rule7 (job .matrix) → JobSolved job (resultOf v) m x
   unfolding jobResult firstRefusal
   refused-by-7 e =
-      record { result = rw (← e, ne-eqb (r .code) 0 no); matrix = λ h. not-accepted h; rhs = λ h. not-accepted h }
+      let refused : accepted v ≡ false = ne-eqb (v .code) 0 no in
+      record { result = rw (← e, refused, refused) refl; matrix = λ h. not-accepted h; rhs = λ h. not-accepted h }
 
-  pub refused-by-8 : (s : CallResult) → s ≡ rule7 (job .matrix) → s .code ≡ 0 → r ≡ rule8 (job .rhs) → JobSolved job r m x
+  pub refused-by-8 : (u : Verdict) → u ≡ rule7 (job .matrix) → u .code ≡ 0 → v ≡ rule8 (job .rhs) → JobSolved job (resultOf v) m x
   unfolding jobResult firstRefusal
-  refused-by-8 s f z e =
-      record { result = rw (← f, eq-eqb (s .code) 0 z, ← e, ne-eqb (r .code) 0 no); matrix = λ h. not-accepted h; rhs = λ h. not-accepted h }
+  refused-by-8 u f z e =
+      let refused : accepted v ≡ false = ne-eqb (v .code) 0 no in
+      record { result = rw (← f, eq-eqb (u .code) 0 z, ← e, refused, refused) refl; matrix = λ h. not-accepted h; rhs = λ h. not-accepted h }
 
 -- ---- lengths
 
@@ -165,12 +170,12 @@ module _ (sizes : Sizes) (inside : InBounds sizes) where
   -- a listing of at most 2,080 matrix values and 1,024 right-side values
   pub result-short :
       (result : CallResult) (matrix rhs : List Float) →
-      (T (accepted result) → result ≡ success) → length matrix ≤ 2080 → length rhs ≤ 1024 →
+      Succeeds result → length matrix ≤ 2080 → length rhs ≤ 1024 →
       length (resultLines sizes result matrix rhs) ≤ 58998
   result-short result matrix rhs is h k =
       elim (decEq (result .code) 0) [
         | yes e ↦
-            (let s : result ≡ success = is (subst T (sym (eq-eqb (result .code) 0 e)) tt) in
+            (let s : result ≡ resultOf success = is (subst T (sym (eq-eqb (result .code) 0 e)) tt) in
             let place : result .place ≡ 0 = ap (λ (r : CallResult). r .place) s in
             let line = jobLine (sizes .order) (sizes .block) (sizes .count) in
             let last = endLine (result .code) (result .place) in
@@ -195,26 +200,32 @@ module _ (sizes : Sizes) (inside : InBounds sizes) where
 
 -- ---- a job that was solved
 
--- an accepted result of a job is success
-job-success : (job : Job) → T (accepted (jobResult job)) → jobResult job ≡ success
-unfolding jobResult
-job-success job h = first-success (rule7 (job .matrix) ∷ rule8 (job .rhs) ∷ jobEnded job .solverResult ∷ []) h
+-- a result of a job that succeeds is success
+job-success : (job : Job) → Succeeds (jobResult job)
+unfolding jobResult jobEnded
+job-success job =
+    let n = job .sizes .order in
+    let b = job .sizes .block in
+    go (firstRefusal (rule7 (job .matrix) ∷ rule8 (job .rhs) ∷ []))
+    (pipeline-success n b (job .sizes .count) (job .matrix) (job .rhs) (replicate (blockWork n b) zero64))
+  where
+    go : (v : Verdict) {r : CallResult} → Succeeds r → Succeeds (cond (accepted v) r (resultOf v))
+    go v {r} f = at (accepted v) refl
+      where
+        at : (t : Bool) → accepted v ≡ t → Succeeds (cond t r (resultOf v))
+        at true e = f
+        at false e = λ h. absurd (rw e at h)
 
 -- 7 and 8 pass, and the pipeline ran
 pub job-ran :
-    (job : Job) (r s : CallResult) (e : Ended) →
-    r ≡ rule7 (job .matrix) → r .code ≡ 0 → s ≡ rule8 (job .rhs) → s .code ≡ 0 → e ≡ jobEnded job → JobSolved job (e .solverResult) (e .matrix) (e .rhs)
-unfolding jobResult firstRefusal jobEnded
-job-ran job r s e p a q b i =
-    let seven : accepted (rule7 (job .matrix)) ≡ true = ap accepted (sym p) ∙ eq-eqb (r .code) 0 a in
-    let eight : accepted (rule8 (job .rhs)) ≡ true = ap accepted (sym q) ∙ eq-eqb (s .code) 0 b in
-    let n = job .sizes .order in
-    let w = replicate (blockWork n (job .sizes .block)) zero64 in
+    (job : Job) (u v : Verdict) (e : Ended) →
+    u ≡ rule7 (job .matrix) → u .code ≡ 0 → v ≡ rule8 (job .rhs) → v .code ≡ 0 → e ≡ jobEnded job → JobSolved job (e .solverResult) (e .matrix) (e .rhs)
+unfolding jobResult firstRefusal
+job-ran job u v e p a q b i =
+    let seven : accepted (rule7 (job .matrix)) ≡ true = ap accepted (sym p) ∙ eq-eqb (u .code) 0 a in
+    let eight : accepted (rule8 (job .rhs)) ≡ true = ap accepted (sym q) ∙ eq-eqb (v .code) 0 b in
     record {
-      result =
-          rw (seven, eight)
-          (ap (λ (x : Ended). x .solverResult) i
-          ∙ sym (first-alone (jobEnded job .solverResult) (pipeline-success n (job .sizes .block) (job .sizes .count) (job .matrix) (job .rhs) w)));
+      result = rw (seven, eight) (ap (λ (x : Ended). x .solverResult) i);
       matrix = λ h. ap (λ (x : Ended). x .matrix) i;
       rhs = λ h. ap (λ (x : Ended). x .rhs) i;
     }
@@ -222,11 +233,11 @@ job-ran job r s e p a q b i =
 -- the lines of what was solved are the job's listing
 pub solved-lines : (job : Job) (r : CallResult) (m x : List Float) → JobSolved job r m x → resultLines (job .sizes) r m x ≡ listingOf job
 unfolding listingOf resultLines
-solved-lines job r m x s = go (accepted r) refl
+solved-lines job r m x s = go (succeeded r) refl
   where
-    go : (b : Bool) → accepted r ≡ b → resultLines (job .sizes) r m x ≡ listingOf job
-    go true e = let t : T (accepted r) = subst T (sym e) tt in ap (λ (y : CallResult). resultLines (job .sizes) y m x) (s .result) ∙ ap (λ (y : List Float). resultLines (job .sizes) (jobResult job) y x) (s .matrix t) ∙ ap (resultLines (job .sizes) (jobResult job) (jobEnded job .matrix)) (s .rhs t)
-    go false e = let f : accepted (jobResult job) ≡ false = ap accepted (sym (s .result)) ∙ e in let g = s .result in rw (g, f)
+    go : (b : Bool) → succeeded r ≡ b → resultLines (job .sizes) r m x ≡ listingOf job
+    go true e = let t : T (succeeded r) = subst T (sym e) tt in ap (λ (y : CallResult). resultLines (job .sizes) y m x) (s .result) ∙ ap (λ (y : List Float). resultLines (job .sizes) (jobResult job) y x) (s .matrix t) ∙ ap (resultLines (job .sizes) (jobResult job) (jobEnded job .matrix)) (s .rhs t)
+    go false e = let f : succeeded (jobResult job) ≡ false = ap succeeded (sym (s .result)) ∙ e in let g = s .result in rw (g, f)
 
 min-right : (n b : ℕ) → n ≤ 64 → min n b ≤ 64
 min-right n b h = omega arith
@@ -259,8 +270,8 @@ ended-as job n b needed e p q w h i =
     ∙ ap (λ (x : ℕ). blockedPipeline x b (job .sizes .count) (job .matrix) (job .rhs) (replicate (blockWork (job .sizes .order) (job .sizes .block)) zero64)) p
     ∙ ap (λ (x : ℕ). blockedPipeline (job .sizes .order) x (job .sizes .count) (job .matrix) (job .rhs) (replicate (blockWork (job .sizes .order) (job .sizes .block)) zero64)) q
 
-pub job-success-of : (job : Job) (r : CallResult) (m x : List Float) → JobSolved job r m x → T (accepted r) → r ≡ success
-job-success-of job r m x s h = s .result ∙ job-success job (subst (λ (y : CallResult). T (accepted y)) (s .result) h)
+pub job-success-of : (job : Job) (r : CallResult) (m x : List Float) → JobSolved job r m x → T (succeeded r) → r ≡ resultOf success
+job-success-of job r m x s h = s .result ∙ job-success job (subst (λ (y : CallResult). T (succeeded y)) (s .result) h)
 
 -- ---- what is written to memory of a given size
 

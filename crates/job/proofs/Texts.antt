@@ -58,6 +58,10 @@ as-text {at} {end} {text} {text′} {a} {b} e w = subst (λ (t : List ℕ). Writ
 length-written : {at end : ℕ} {text a b : List ℕ} → at + length text ≤ length a → Written at text a end b → length b ≡ length a
 length-written {at} {end} {text} {a} {b} h w = ap length (w .memory) ∙ length-overwrite a at text h
 
+-- memory that has kept its length holds all that was written
+pub written-within : {end : ℕ} {text a b : List ℕ} → Written 0 text a end b → length b ≡ length a → end ≤ length a
+written-within w e = omega (arith, simp (length-append, length-drop) at (ap length (w .memory)))
+
 pub nothing-written : (at : ℕ) (a : List ℕ) → Written at [] a at a
 nothing-written at a = record { next = omega arith; memory = paste-zero a at [] }
 

@@ -11,6 +11,7 @@ use Rattle.shape.specs.Places.{blockWork}
 use Rattle.calls.specs.declared.CallResult.{CallResult}
 use Rattle.calls.specs.Sequences.{iterate, tabulate}
 use Rattle.calls.specs.Refusals.{accepted, rule7, rule8, firstRefusal}
+use Rattle.calls.specs.Calls.{resultOf, succeeded}
 use Rattle.calls.specs.Pipelines.{Ended, blockedPipeline}
 use Rattle.job.specs.declared.Sizes.{Sizes}
 use Rattle.job.specs.Reading.{Parsed, fault, found}
@@ -67,7 +68,9 @@ jobEnded job =
     blockedPipeline n b (job .sizes .count) (job .matrix) (job .rhs) (replicate (blockWork n b) zero64)
 
 unfoldable pub jobResult : Job → CallResult
-jobResult job = firstRefusal (rule7 (job .matrix) ∷ rule8 (job .rhs) ∷ jobEnded job .solverResult ∷ [])
+jobResult job =
+    let values = firstRefusal (rule7 (job .matrix) ∷ rule8 (job .rhs) ∷ []) in
+    cond (accepted values) (jobEnded job .solverResult) (resultOf values)
 
 -- After code 13 only `END` stands; after others `JOB` and `END`. The value lines hold the matrix and the right-hand sides at the pipeline's end.
 unfoldable pub solutionLines : List Float → List Float → List ℕ
@@ -76,7 +79,7 @@ solutionLines matrix rhs = valueLines (70 ∷ space ∷ []) matrix ++ valueLines
 unfoldable pub resultLines : Sizes → CallResult → List Float → List Float → List ℕ
 resultLines sizes result matrix rhs =
     jobLine (sizes .order) (sizes .block) (sizes .count)
-    ++ cond (accepted result) (solutionLines matrix rhs) []
+    ++ cond (succeeded result) (solutionLines matrix rhs) []
     ++ endLine (result .code) (result .place)
 
 unfoldable pub listingOf : Job → List ℕ
@@ -100,5 +103,5 @@ listingIn size file = cond (leb maxListing size) (listing file) []
 -- what a solved job returns, and the memory that it leaves where it is accepted
 pub record JobSolved (job : Job) (r : CallResult) (matrix′ rhs′ : List Float) : Type 0 where
   pub result : r ≡ jobResult job
-  pub matrix : T (accepted r) → matrix′ ≡ jobEnded job .matrix
-  pub rhs : T (accepted r) → rhs′ ≡ jobEnded job .rhs
+  pub matrix : T (succeeded r) → matrix′ ≡ jobEnded job .matrix
+  pub rhs : T (succeeded r) → rhs′ ≡ jobEnded job .rhs

@@ -14,7 +14,8 @@ mod listing;
 mod reader;
 
 use calls::CallResult;
-use calls::check_finite;
+use checks::Values;
+use checks::check_finite;
 use engine::blocked_pipeline;
 use format::MAX_ORDER;
 use format::MAX_RHS;
@@ -70,13 +71,13 @@ fn solve_job(sizes: Sizes, matrix: &mut [f64], rhs: &mut [f64]) -> CallResult
     requires { ⌜ InBounds sizes ⌝ }
     ensures { λ r. ⌜ JobSolved (record { sizes = sizes; matrix = now (matrix .entry); rhs = now (rhs .entry) }) r (now (matrix .exit)) (now (rhs .exit)) ⌝ }
 {
-    let checked = check_finite(7, matrix);
+    let checked = check_finite(Values::Matrix, matrix);
     if checked.code != 0 {
-        return checked;
+        return calls::result(checked);
     }
-    let checked = check_finite(8, rhs);
+    let checked = check_finite(Values::Rhs, rhs);
     if checked.code != 0 {
-        return checked;
+        return calls::result(checked);
     }
     let shape = Shape::new(sizes.order, sizes.block);
     let needed = shape.block_work();

@@ -13,8 +13,8 @@ use lib.Seq.{getD-take}
 use lib.Ieee.{Float, nan, inf, fin, Format, binary64, sub, mul, round, unlike, up, down}
 use Rattle.calls.specs.Arithmetic.{minusProducts}
 use Rattle.calls.proofs.Columns.{products-same}
-use Rattle.kernels.specs.Kernels.{risingFrom, fallingFrom}
-use Rattle.kernels.proofs.Parts.{getD-part, length-part}
+use Rattle.kernels.specs.Kernels.{Filled, Replaced, rowAt, laneAt, risingFrom, fallingFrom}
+use Rattle.kernels.proofs.Parts.{getD-part, length-part, filled-same}
 
 unlike-comm : (s t : Bool) → unlike s t ≡ unlike t s
 unlike-comm false false = refl
@@ -101,3 +101,15 @@ falling-part column x v at a m e t end fits same =
   where
     size : length (take m (drop a v)) ≡ m
     size = length-part nan a m v (omega arith)
+
+-- ---- lanes
+
+-- the first len of 16 lanes loaded, worked on and stored
+pub filled-lanes :
+    (m m′ panel start lanes : List Float) (x y len count : ℕ) → len ≤ 16 → ((t : ℕ) → t < len → getD start t nan ≡ getD m (y + t) nan) →
+    ((t : ℕ) → t < 16 → getD lanes t nan ≡ minusProducts (rowAt m x) (laneAt panel t) count (getD start t nan)) →
+    Replaced nan y len m lanes m′ →
+    Filled nan y len (λ t. minusProducts (rowAt m x) (laneAt panel t) count (getD m (y + t) nan)) m m′
+filled-lanes m m′ panel start lanes x y len count few loaded worked filled =
+    filled-same nan y len (λ t. getD lanes t nan) (λ t. minusProducts (rowAt m x) (laneAt panel t) count (getD m (y + t) nan)) m m′
+    (λ t h. worked t (omega arith) ∙ ap (minusProducts (rowAt m x) (laneAt panel t) count) (loaded t h)) filled

@@ -1,11 +1,19 @@
 -- What the loops over values promise, free of any matrix.
-use Prim.Native.Nat.{ℕ, _+_, _-_, _≤_, _<_}
+use Prim.Native.Nat.{ℕ, _+_, _-_, _*_, _≤_, _<_}
 use mathlib.Core.Path.{_≡_}
 use mathlib.Core.Logic.{_≢_}
 use mathlib.Core.List.{List}
 use lib.ListN.{length, getD}
 use lib.Ieee.{Float, nan, binary64, sub, mul}
 use Rattle.calls.specs.Arithmetic.{minusProducts}
+
+-- the values from place x on
+abbrev pub rowAt : List Float → ℕ → ℕ → Float
+rowAt m x = λ k. getD m (x + k) nan
+
+-- lane t of a panel packed 16 wide
+abbrev pub laneAt : List Float → ℕ → ℕ → Float
+laneAt panel t = λ k. getD panel (16 * k + t) nan
 
 -- t less the first products x(at + k)·y(k), k = 0, 1, .., of which `count` are taken
 abbrev pub risingFrom : List Float → ℕ → List Float → ℕ → Float → Float

@@ -1,10 +1,20 @@
-// Loops over values that know nothing of a matrix: copies, and products subtracted one by one, for one value or for 8 or 16 at once. Those are
-// independent, so that the machine works on several while each keeps its order.
+// Loops over values that know nothing of a matrix: copies, and products subtracted one by one, for one value or for 8 at once; for 16 in lanes.rt.
+// Those are independent, so that the machine works on several while each keeps its order.
 ghost use mathlib.Core.Path.{_≡_};
 ghost use Prim.Native.Nat.{ℕ, _+_, _≤_, _<_};
-ghost use lib.ListN.{length, getD};
+ghost use lib.ListN.{length, getD, set};
 ghost use lib.Ieee.{nan, binary64, sub, mul, div};
-ghost use Rattle.kernels.specs.Kernels.{MultipleSubtracted, Replaced, Scattered, risingFrom, fallingFrom};
+ghost use Rattle.calls.specs.Arithmetic.{minusProducts};
+ghost use Rattle.kernels.specs.Kernels.{MultipleSubtracted, Filled, Replaced, Scattered, rowAt, risingFrom, fallingFrom};
+
+mod lanes;
+
+pub use lanes::load16;
+pub use lanes::pack_lane;
+pub use lanes::step16;
+pub use lanes::store16;
+pub use lanes::update_part16;
+pub use lanes::update16;
 
 // Every value of v less that of x times y.
 pub fn subtract_multiple(v: &mut [f64], x: &[f64], y: f64)
@@ -32,7 +42,35 @@ pub fn subtract_rising(t: f64, x: &[f64], at: usize, y: &[f64]) -> f64
     value
 }
 
-// The same, k falling.
+// The same with both factors in one list: the count values from place x on, and those from place y on.
+pub fn minus_products(m: &[f64], x: usize, y: usize, count: usize, t: f64) -> f64
+    requires { ⌜ (x + count ≤ length (now m)) × (y + count ≤ length (now m)) ⌝ }
+    ensures { λ r. ⌜ r ≡ minusProducts (rowAt (now (m .entry)) x) (rowAt (now (m .entry)) y) count t ⌝ }
+{
+    let mut s = t;
+    let mut k = 0;
+    while k < count {
+        s = s - m[x + k] * m[y + k];
+        k += 1;
+    }
+    s
+}
+
+// The entry count places past x, less the products of the values there with those from y on, and divided by the value past these.
+pub fn divide_entry(part: &mut [f64], x: usize, y: usize, count: usize)
+    requires { ⌜ (x + count < length (now part)) × (y + count < length (now part)) ⌝ }
+    ensures { λ _.
+        ⌜ now (part .exit)
+        ≡ set (now (part .entry)) (x + count)
+        (div binary64
+        (minusProducts (rowAt (now (part .entry)) x) (rowAt (now (part .entry)) y) count (getD (now (part .entry)) (x + count) nan))
+        (getD (now (part .entry)) (y + count) nan)) ⌝ }
+{
+    let less = minus_products(part, x, y, count, part[x + count]);
+    part[x + count] = less / part[y + count];
+}
+
+// As `subtract_rising`, k falling.
 pub fn subtract_falling(t: f64, x: &[f64], at: usize, y: &[f64]) -> f64
     requires { ⌜ at + length (now y) ≤ length (now x) ⌝ }
     ensures { λ r. ⌜ r ≡ fallingFrom (now (x .entry)) at (now (y .entry)) (length (now (y .entry))) t ⌝ }
@@ -155,76 +193,41 @@ pub fn divide8(t: [f64; 8], y: f64) -> [f64; 8]
     quotients
 }
 
-// Sixteen values less the products of x[at + s] and y.
-pub fn step16(t: [f64; 16], x: &[f64], at: usize, y: f64) -> [f64; 16]
-    requires { ⌜ at + 16 ≤ length (now x) ⌝ }
-    ensures { λ r. ⌜ ((s : ℕ) → s < 16 → getD r s nan ≡ sub binary64 (getD t s nan) (mul binary64 (getD (now (x .entry)) (at + s) nan) y)) ⌝ }
+// Eight entries, each count places past its place `at`, less the products of the values there with those from y on, divided by the root.
+pub fn quotients8(part: &[f64], at: [usize; 8], y: usize, count: usize, root: f64) -> [f64; 8]
+    requires { ⌜ y + count ≤ length (now part) ⌝ }
+    requires { ⌜ ((k : ℕ) → k < 8 → getD at k 0 + count < length (now part)) ⌝ }
+    ensures { λ q.
+        ⌜ (length q ≡ 8)
+        × ((k : ℕ) → k < 8 →
+        getD q k nan
+        ≡ div binary64
+        (minusProducts (rowAt (now (part .entry)) (getD at k 0)) (rowAt (now (part .entry)) y) count
+        (getD (now (part .entry)) (getD at k 0 + count) nan))
+        root) ⌝ }
 {
-    let mut next = t;
-    let mut s = 0;
-    while s < 16 {
-        next[s] = next[s] - x[at + s] * y;
-        s += 1;
-    }
-    next
+    let start = gather8(part, at, count);
+    let reduced = subtract_rising8(start, part, at, &part[y..y + count]);
+    divide8(reduced, root)
 }
 
-pub fn load16(v: &[f64], at: usize) -> [f64; 16]
-    requires { ⌜ at + 16 ≤ length (now v) ⌝ }
-    ensures { λ r. ⌜ ((s : ℕ) → s < 16 → getD r s nan ≡ getD (now (v .entry)) (at + s) nan) ⌝ }
+// The count values of `from` from position at on, to positions start, start + 1, ..
+pub fn copy_part(from: &[f64], at: usize, to: &mut [f64], start: usize, count: usize)
+    requires { ⌜ (at + count ≤ length (now from)) × (start + count ≤ length (now to)) ⌝ }
+    ensures { λ _. ⌜ Filled nan start count (rowAt (now (from .entry)) at) (now (to .entry)) (now (to .exit)) ⌝ }
 {
-    let mut values = [0.0; 16];
-    let mut s = 0;
-    while s < 16 {
-        values[s] = v[at + s];
-        s += 1;
-    }
-    values
-}
-
-pub fn store16(v: &mut [f64], at: usize, values: [f64; 16])
-    requires { ⌜ at + 16 ≤ length (now v) ⌝ }
-    ensures { λ _. ⌜ Replaced nan at 16 (now (v .entry)) values (now (v .exit)) ⌝ }
-{
-    let mut s = 0;
-    while s < 16 {
-        v[at + s] = values[s];
-        s += 1;
+    let mut k = 0;
+    while k < count {
+        to[start + k] = from[at + k];
+        k += 1;
     }
 }
 
-// The first count of sixteen values, from position at on; the others are zeros.
-pub fn load_part16(v: &[f64], at: usize, count: usize) -> [f64; 16]
-    requires { ⌜ (at + count ≤ length (now v)) × (count ≤ 16) ⌝ }
-    ensures { λ r. ⌜ ((s : ℕ) → s < count → getD r s nan ≡ getD (now (v .entry)) (at + s) nan) ⌝ }
-{
-    let mut values = [0.0; 16];
-    let mut s = 0;
-    while s < count {
-        values[s] = v[at + s];
-        s += 1;
-    }
-    values
-}
-
-pub fn store_part16(v: &mut [f64], at: usize, values: [f64; 16], count: usize)
-    requires { ⌜ (at + count ≤ length (now v)) × (count ≤ 16) ⌝ }
-    ensures { λ _. ⌜ Replaced nan at count (now (v .entry)) values (now (v .exit)) ⌝ }
-{
-    let mut s = 0;
-    while s < count {
-        v[at + s] = values[s];
-        s += 1;
-    }
-}
-
+// All values.
 pub fn copy(from: &[f64], to: &mut [f64])
     requires { ⌜ length (now from) ≡ length (now to) ⌝ }
     ensures { λ _. ⌜ now (to .exit) ≡ now (from .entry) ⌝ }
 {
-    let mut k = 0;
-    while k < to.len() {
-        to[k] = from[k];
-        k += 1;
-    }
+    let count = to.len();
+    copy_part(from, 0, to, 0, count);
 }

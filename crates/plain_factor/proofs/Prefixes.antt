@@ -2,10 +2,8 @@
 use Prim.Native.Nat.{ℕ, zero, suc, _+_, _-_, _≤_, _<_}
 use native.Mathlib.Numerals.{add-one}
 use native.Mathlib.Omega.{arith}
-use native.Mathlib.Decide.{decLt}
 use mathlib.Core.Path.{_≡_, refl, sym, ap, ap₂, _∙_}
-use mathlib.Core.Logic.{_⊎_, inl, inr, ⊎-elim}
-use mathlib.Core.Bool.{Bool, true, false, cond, true≢false}
+use mathlib.Core.Bool.{Bool, true, false, cond}
 use mathlib.Core.List.{List, [], _∷_}
 use lib.ListN.{length, getD}
 use lib.Ieee.{Float, nan, binary64, div}
@@ -13,20 +11,20 @@ use Rattle.binary64.specs.Kinds.{finite}
 use Rattle.binary64.specs.Root.{root}
 use Rattle.binary64.specs.Judged.{judged}
 use Rattle.binary64.specs.declared.Pivot.{Pivot}
-use Rattle.binary64.specs.declared.Pivot.the-variants.{Root, Refused}
 use Rattle.shape.specs.Places.{triangle, packedPlace}
 use Rattle.shape.specs.Layouts.{Entry}
 use Rattle.shape.proofs.Bijections.{packed-bijection}
-use Rattle.calls.specs.declared.CallResult.{CallResult}
+use Rattle.calls.specs.declared.Verdict.{Verdict}
 use Rattle.calls.specs.Sequences.{iterate, grow, all, tabulate}
 use Rattle.calls.specs.Triangles.{Triangle, entry, height, storeColumn, store}
 use Rattle.calls.specs.Arithmetic.{minusProducts, pivot, quotient, below, factorColumn, cholesky}
-use Rattle.calls.specs.Refusals.{success, accepted, lowestRefusal, firstRefusal, rule10, rule11, columnRules}
+use Rattle.calls.specs.Refusals.{success, accepted, lowestRefusal, columnRules, columnVerdict}
 use Rattle.calls.specs.Calls.{columnsVerdict}
 use Rattle.calls.proofs.Sequences.{length-tabulate, getD-tabulate, tabulate-of}
 use Rattle.calls.proofs.Triangles.{entry-load, stored, store-same, store-other}
 use Rattle.calls.proofs.Columns.{columns, column-of, shaped-columns, products-same}
-use Rattle.plain_factor.proofs.Verdicts.{column-pivot-refused, column-rows-refused, column-success}
+use Rattle.calls.proofs.Judging.{lowest-next, lowest-found}
+use Rattle.calls.proofs.ColumnRules.{rules-success, rules-place}
 use Rattle.plain_factor.specs.Steps.{held, Judged, Factored}
 
 -- ---- steps and tables that agree
@@ -48,8 +46,8 @@ abbrev pub prefixOf : ℕ → List Float → ℕ → List Float
 prefixOf n m j = store (packedPlace n) (columns n (held n m) j) m
 
 -- how column j is judged, from the columns before it
-abbrev pub ruleOf : ℕ → List Float → ℕ → CallResult
-ruleOf n m j = columnRules (height n) (held n m) (columns n (held n m) j) j
+abbrev pub ruleOf : ℕ → List Float → ℕ → Verdict
+ruleOf n m j = columnVerdict (height n) (held n m) (columns n (held n m) j) j
 
 pub prefix-none : (n : ℕ) (m : List Float) → m ≡ prefixOf n m 0
 unfolding store cholesky grow iterate
@@ -112,9 +110,9 @@ module _ (n : ℕ) (m : List Float) (size : length m ≡ triangle n) where
         tabulate-same nan (λ r. quotient t t (root (pivot t t j)) j (j + 1 + r)) (λ r. quotient a l (root (pivot a l j)) j (j + 1 + r)) (n - j - 1)
         (λ r h. ap₂ (div binary64) (prefix-products (j + 1 + r) (omega arith) (omega arith)) (ap root prefix-pivot))
 
-    prefix-rules : columnRules (height n) t t j ≡ columnRules (height n) a l j
-    unfolding columnRules
-    prefix-rules = ap₂ (λ p b. firstRefusal (rule10 j (judged p) ∷ rule11 j b ∷ [])) prefix-pivot prefix-below
+    prefix-rules : columnVerdict (height n) t t j ≡ columnVerdict (height n) a l j
+    unfolding columnVerdict
+    prefix-rules = ap₂ (λ x xs. columnRules j (judged x) (all finite xs)) prefix-pivot prefix-below
 
     prefix-factor-column : factorColumn (height n) t j t ≡ factorColumn (height n) a j l
     unfolding factorColumn
@@ -122,7 +120,7 @@ module _ (n : ℕ) (m : List Float) (size : length m ≡ triangle n) where
 
   -- a turn of the column loop
   prefix-judged :
-      (j : ℕ) (s s′ : List Float) (r : CallResult) → j < n → s ≡ prefix j → Judged n j s r s′ →
+      (j : ℕ) (s s′ : List Float) (r : Verdict) → j < n → s ≡ prefix j → Judged n j s r s′ →
       (r ≡ ruleOf n m j) × (s′ ≡ cond (accepted r) (prefix (suc j)) (prefix j))
   prefix-judged j s s′ r inside e g =
       let g′ : Judged n j (prefix j) r s′ = rw e at g in (
@@ -134,52 +132,25 @@ module _ (n : ℕ) (m : List Float) (size : length m ≡ triangle n) where
 
 -- ---- the verdict on all columns
 
--- a column's rules accept with success, or refuse at the column
-rules-cases :
-    (heightOf : ℕ → ℕ) (a l : Triangle) (j : ℕ) →
-    (columnRules heightOf a l j ≡ success) ⊎ ((accepted (columnRules heightOf a l j) ≡ false) × (columnRules heightOf a l j .place ≡ j))
-rules-cases heightOf a l j = go (judged (pivot a l j)) refl (all finite (below heightOf a j l)) refl
-  where
-    go :
-        (p : Pivot) → judged (pivot a l j) ≡ p → (f : Bool) → all finite (below heightOf a j l) ≡ f →
-        (columnRules heightOf a l j ≡ success) ⊎ ((accepted (columnRules heightOf a l j) ≡ false) × (columnRules heightOf a l j .place ≡ j))
-    go (Root d) e true f = inl (column-success heightOf a l j d e f)
-    go (Root d) e false f = inr (rw (column-rows-refused heightOf a l j d e f) (refl, refl))
-    go (Refused v) e b f = inr (rw (column-pivot-refused heightOf a l j v e) (refl, refl))
-
-module _ (judge : ℕ → CallResult) (j : ℕ) (before : lowestRefusal judge j ≡ success) where
-  lowest-next : judge j ≡ success → lowestRefusal judge (suc j) ≡ success
-  unfolding lowestRefusal
-  lowest-next e = rw (before, e)
-
-  lowest-here : accepted (judge j) ≡ false → (n : ℕ) → j < n → lowestRefusal judge n ≡ judge j
-  unfolding lowestRefusal
-  lowest-here e zero h = absurd (omega arith)
-  lowest-here e (suc n) h =
-      elim (decLt j n) [
-        | yes p ↦ rw (lowest-here e n p, e)
-        | no p ↦
-            let g : n ≡ j = omega arith in
-            rw (g, before)
-      ]
-
 module _ (n : ℕ) (m : List Float) (j : ℕ) (before : lowestRefusal (ruleOf n m) j ≡ success) where
-  verdict-next : accepted (ruleOf n m j) ≡ true → lowestRefusal (ruleOf n m) (suc j) ≡ success
-  verdict-next t =
-      ⊎-elim (λ e. lowest-next (ruleOf n m) j before e) (λ w. let z : true ≡ false = sym t ∙ w .0 in absurd (true≢false z))
-      (rules-cases (height n) (held n m) (columns n (held n m) j) j)
+  abbrev pivotHere : Pivot
+  pivotHere = judged (pivot (held n m) (columns n (held n m) j) j)
+
+  abbrev finiteBelow : Bool
+  finiteBelow = all finite (below (height n) (held n m) j (columns n (held n m) j))
+
+  verdict-next : accepted (ruleOf n m j) ≡ true → lowestRefusal (ruleOf n m) (j + 1) ≡ success
+  unfolding columnVerdict
+  verdict-next t = lowest-next (ruleOf n m) j before ∙ rules-success j pivotHere finiteBelow (rw t tt)
 
   verdict-here :
       (s : List Float) → j < n → s ≡ prefixOf n m j → accepted (ruleOf n m j) ≡ false → Factored n m (ruleOf n m j) s
-  unfolding columnsVerdict
+  unfolding columnsVerdict columnVerdict
   verdict-here s inside e f =
-      ⊎-elim (λ g. let z : true ≡ false = sym (ap accepted g) ∙ f in absurd (true≢false z))
-      (λ w.
       record {
-        result = sym (lowest-here (ruleOf n m) j before f n inside);
-        matrix = e ∙ rw (f, w .1) refl;
-      })
-      (rules-cases (height n) (held n m) (columns n (held n m) j) j)
+        result = sym (lowest-found (ruleOf n m) j n inside before f);
+        matrix = e ∙ rw (f, rules-place j pivotHere finiteBelow f);
+      }
 
 pub verdict-all :
     (n : ℕ) (m s : List Float) → lowestRefusal (ruleOf n m) n ≡ success → s ≡ prefixOf n m n → Factored n m success s
@@ -189,7 +160,7 @@ verdict-all n m s before e = record { result = sym before; matrix = e }
 -- ---- a turn of the column loop
 
 module _ (n : ℕ) (m : List Float) (size : length m ≡ triangle n) (j : ℕ) (inside : j < n) (before : lowestRefusal (ruleOf n m) j ≡ success)
-    (s s′ : List Float) (r : CallResult) (written : s ≡ prefixOf n m j) (judged : Judged n j s r s′) where
+    (s s′ : List Float) (r : Verdict) (written : s ≡ prefixOf n m j) (judged : Judged n j s r s′) where
   pub columns-refused : accepted r ≡ false → Factored n m r s′
   columns-refused f =
       let turn : (r ≡ ruleOf n m j) × (s′ ≡ cond (accepted r) (prefixOf n m (suc j)) (prefixOf n m j)) =
@@ -203,5 +174,4 @@ module _ (n : ℕ) (m : List Float) (size : length m ≡ triangle n) (j : ℕ) (
       let turn : (r ≡ ruleOf n m j) × (s′ ≡ cond (accepted r) (prefixOf n m (suc j)) (prefixOf n m j)) =
       prefix-judged n m size j s s′ r inside written judged
       in
-      rw add-one
-      (turn .1 ∙ ap (λ b. cond b (prefixOf n m (suc j)) (prefixOf n m j)) t, verdict-next n m j before (ap accepted (sym (turn .0)) ∙ t))
+      (rw add-one (turn .1 ∙ ap (λ b. cond b (prefixOf n m (suc j)) (prefixOf n m j)) t), verdict-next n m j before (ap accepted (sym (turn .0)) ∙ t))

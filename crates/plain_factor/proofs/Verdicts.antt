@@ -6,11 +6,12 @@ use mathlib.Core.Path.{_≡_, refl, sym, ap, ap₂, _∙_}
 use mathlib.Core.Bool.{Bool, true, false, cond}
 use mathlib.Core.Logic.{_≢_}
 use mathlib.Core.List.{List, _∷_}
+use borrow.Author.Tests.{ne-eqb}
 use borrow.Rule.Slice.PartAt.{part-to-end}
 use lib.ListN.{length, getD, set, take, drop, length-drop}
 use lib.Seq.{getD-drop, drop-cons, getD-set-same, getD-set-other}
 use lib.Ieee.{Float, nan, binary64, div}
-use Rattle.binary64.specs.Kinds.{finite, zero64}
+use Rattle.binary64.specs.Kinds.{finite}
 use Rattle.binary64.specs.Root.{root}
 use Rattle.binary64.specs.Judged.{judged}
 use Rattle.binary64.specs.declared.Pivot.{Pivot}
@@ -18,16 +19,16 @@ use Rattle.binary64.specs.declared.Pivot.the-variants.{Root, Refused}
 use Rattle.shape.specs.Places.{packedPlace}
 use Rattle.shape.specs.Layouts.{Entry}
 use Rattle.shape.proofs.Bijections.{packed-bijection}
-use Rattle.calls.specs.declared.CallResult.{CallResult}
+use Rattle.calls.specs.declared.Verdict.{Verdict}
 use Rattle.calls.specs.Sequences.{all}
 use Rattle.calls.specs.Triangles.{Triangle, entry, height, storeColumn}
 use Rattle.calls.specs.Arithmetic.{minusProducts, pivot, quotient, below, factorColumn}
-use Rattle.calls.specs.Refusals.{success, refusal, accepted, firstRefusal, rule11, columnRules}
+use Rattle.calls.specs.Refusals.{accepted, columnRules, columnVerdict}
 use Rattle.calls.proofs.Sequences.{tabulate-of}
 use Rattle.calls.proofs.Triangles.{entry-load, column-other}
 use Rattle.calls.proofs.Columns.{length-column, products-same}
 use Rattle.kernels.proofs.Parts.{filled-here}
-use Rattle.calls.proofs.Judging.{judged-root}
+use Rattle.calls.proofs.ColumnRules.{judged-root, rules-accepted, rules-pivot}
 use Rattle.plain_factor.specs.Steps.{Column, reduced, Reduced, held, RowsDivided, Divided, Judged}
 
 -- ---- formulas
@@ -72,23 +73,6 @@ module _ (n j : ℕ) (m : List Float) where
         drop-cons w′ j nan (omega arith)
         ∙ ap₂ (λ x xs. x ∷ xs) (divided .diagonal ∙ root-is) (ap (λ k. drop k w′) (sym (add-one j)) ∙ below-held)
 
--- ---- verdicts
-
-module _ (heightOf : ℕ → ℕ) (a l : Triangle) (j : ℕ) where
-  pub column-pivot-refused : (v : Float) → judged (pivot a l j) ≡ Refused v → columnRules heightOf a l j ≡ refusal 10 j v
-  unfolding columnRules firstRefusal
-  column-pivot-refused v e = rw e
-
-  pub column-rows-refused :
-      (d : Float) → judged (pivot a l j) ≡ Root d → all finite (below heightOf a j l) ≡ false → columnRules heightOf a l j ≡ refusal 11 j zero64
-  unfolding columnRules firstRefusal rule11
-  column-rows-refused d e f = rw (e, f)
-
-  pub column-success :
-      (d : Float) → judged (pivot a l j) ≡ Root d → all finite (below heightOf a j l) ≡ true → columnRules heightOf a l j ≡ success
-  unfolding columnRules firstRefusal rule11
-  column-success d e f = rw (e, f)
-
 -- ---- a column judged
 
 pub rows-divided :
@@ -104,37 +88,51 @@ rows-divided j d w v inside f =
     }
 
 module _ (n j : ℕ) (m w : List Float) (s : Column n j m) (size : length w ≡ n) (rows : Reduced n m j j j n w) where
-  column-pivot : {p : Pivot} → judged (getD w j nan) ≡ p → judged (pivot (held n m) (held n m) j) ≡ p
-  column-pivot e = ap judged (sym (rows j (omega arith) (s .column) ∙ pivot-held n j m (s .column))) ∙ e
+  abbrev x : Float
+  x = pivot (held n m) (held n m) j
 
-  pub pivot-refused : (v : Float) → judged (getD w j nan) ≡ Refused v → Judged n j m (refusal 10 j v) m
-  pivot-refused v e = record { result = sym (column-pivot-refused (height n) (held n m) (held n m) j v (column-pivot e)); matrix = refl }
+  column-pivot : {p : Pivot} → p ≡ judged (getD w j nan) → p ≡ judged x
+  column-pivot e = e ∙ ap judged (rows j (omega arith) (s .column) ∙ pivot-held n j m (s .column))
 
-  module _ (d : Float) (w′ : List Float) (finiteRows : Bool) (e : judged (getD w j nan) ≡ Root d) (size′ : length w′ ≡ n)
+  -- a refused pivot decides, whatever stands below it
+  pub pivot-refused :
+      {p : Pivot} {v : Float} {r : Verdict} → p ≡ judged (getD w j nan) → p ≡ Refused v → r ≡ columnRules j p true → Judged n j m r m
+  unfolding columnVerdict
+  pivot-refused {p} is e er =
+      let here : p ≡ judged x = column-pivot is in
+      let no : accepted (columnRules j p true) ≡ false =
+      ne-eqb (columnRules j p true .code) 0
+      (λ h. let z : _≡_ {A = ℕ} 0 1 = cc (rules-accepted j x true (rw (← here, h) tt) .0) in omega arith)
+      in
+      record {
+        result = er ∙ sym (rules-pivot j p (all finite (below (height n) (held n m) j (held n m))) no) ∙ rw here;
+        matrix = rw (er, no);
+      }
+
+  module _ (d : Float) (w′ : List Float) (finiteRows : Bool) (is : Root d ≡ judged (getD w j nan)) (size′ : length w′ ≡ n)
       (divided : Divided j d w w′ finiteRows) where
-    root-is : d ≡ root (pivot (held n m) (held n m) j)
-    root-is = judged-root (pivot (held n m) (held n m) j) d (column-pivot e)
+    root-is : d ≡ root x
+    root-is = judged-root x d (sym (column-pivot is))
 
-    finite-below : {b : Bool} → finiteRows ≡ b → all finite (below (height n) (held n m) j (held n m)) ≡ b
-    finite-below f =
-        ap (all finite) (sym (below-held n j m w w′ d finiteRows size size′ (s .column) rows divided root-is)) ∙ sym (divided .finites) ∙ f
-
-    pub rows-refused : finiteRows ≡ false → Judged n j m (refusal 11 j zero64) m
-    rows-refused f =
-        record { result = sym (column-rows-refused (height n) (held n m) (held n m) j d (column-pivot e) (finite-below f)); matrix = refl }
-
-    pub column-accepted : (m′ : List Float) → finiteRows ≡ true → m′ ≡ storeColumn (packedPlace n) j (drop j w′) m → Judged n j m success m′
-    column-accepted m′ f stored =
+    pub column-judged :
+        {r : Verdict} {m′ : List Float} → r ≡ columnRules j (Root d) finiteRows →
+        m′ ≡ cond (accepted r) (storeColumn (packedPlace n) j (drop j w′) m) m → Judged n j m r m′
+    unfolding columnVerdict
+    column-judged {r} er stored =
         record {
-          result = sym (column-success (height n) (held n m) (held n m) j d (column-pivot e) (finite-below f));
+          result =
+              er
+              ∙ ap₂ (columnRules j) (column-pivot is)
+              (divided .finites ∙ ap (all finite) (below-held n j m w w′ d finiteRows size size′ (s .column) rows divided root-is));
           matrix =
               stored
-              ∙ ap (λ c. storeColumn (packedPlace n) j c m) (column-held n j m w w′ d finiteRows size size′ (s .column) rows divided root-is);
+              ∙ ap (λ c. cond (accepted r) (storeColumn (packedPlace n) j c m) m)
+              (column-held n j m w w′ d finiteRows size size′ (s .column) rows divided root-is);
         }
 
 -- ---- what a column leaves
 
-module _ (n j : ℕ) (m m′ : List Float) (r : CallResult) (inside : j < n) (g : Judged n j m r m′) where
+module _ (n j : ℕ) (m m′ : List Float) (r : Verdict) (inside : j < n) (g : Judged n j m r m′) where
   -- the other columns are as they were
   others-kept : (i c : ℕ) → Entry n i c → c ≢ j → getD m′ (packedPlace n i c) nan ≡ getD m (packedPlace n i c) nan
   others-kept i c e ne = ap (λ x. getD x (packedPlace n i c) nan) (g .matrix) ∙ go (accepted r)

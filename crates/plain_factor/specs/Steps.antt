@@ -10,11 +10,11 @@ use lib.Ieee.{Float, nan, binary64, div}
 use Rattle.binary64.specs.Kinds.{finite}
 use Rattle.shape.specs.Bounds.{maxOrder}
 use Rattle.shape.specs.Places.{triangle, packedPlace}
-use Rattle.calls.specs.declared.CallResult.{CallResult}
+use Rattle.calls.specs.declared.Verdict.{Verdict}
 use Rattle.calls.specs.Sequences.{all}
 use Rattle.calls.specs.Triangles.{Triangle, height, load, storeColumn, store}
 use Rattle.calls.specs.Arithmetic.{minusProducts, factorColumn, cholesky}
-use Rattle.calls.specs.Refusals.{accepted, columnRules}
+use Rattle.calls.specs.Refusals.{accepted, columnVerdict}
 use Rattle.calls.specs.Calls.{columnsVerdict}
 use Rattle.kernels.specs.Kernels.{Filled}
 
@@ -110,11 +110,11 @@ pub record Divided (j : ℕ) (d : Float) (w w′ : List Float) (finiteRows : Boo
   pub finites : finiteRows ≡ all finite (drop (j + 1) w′)
 
 -- column j judged, and written where it is accepted
-pub record Judged (n j : ℕ) (m : List Float) (r : CallResult) (m′ : List Float) : Type 0 where
-  pub result : r ≡ columnRules (height n) (held n m) (held n m) j
+pub record Judged (n j : ℕ) (m : List Float) (r : Verdict) (m′ : List Float) : Type 0 where
+  pub result : r ≡ columnVerdict (height n) (held n m) (held n m) j
   pub matrix : m′ ≡ cond (accepted r) (storeColumn (packedPlace n) j (factorColumn (height n) (held n m) j (held n m)) m) m
 
 -- all columns judged up to the first that is refused, and those before it written
-pub record Factored (n : ℕ) (m : List Float) (r : CallResult) (m′ : List Float) : Type 0 where
+pub record Factored (n : ℕ) (m : List Float) (r : Verdict) (m′ : List Float) : Type 0 where
   pub result : r ≡ columnsVerdict n (held n m)
   pub matrix : m′ ≡ store (packedPlace n) (cholesky (height n) (held n m) (cond (accepted r) n (r .place))) m

@@ -13,6 +13,7 @@ ghost use Rattle.plain_factor.specs.Steps.{Reduced, Waiting, Formed, Row
 use binary64::Pivot;
 use calls::CallResult;
 use calls::Layout;
+use calls::Verdict;
 use shape::Shape;
 
 // The place of entry (i, k), less i. The product is even, so the division is exact.
@@ -370,29 +371,27 @@ fn divide_rows(work: &mut [f64], j: usize, diagonal: f64) -> bool
     let below = j + 1;
     divide(work, below, diagonal);
     work[j] = diagonal;
-    calls::all_finite(&work[below..])
+    checks::all_finite(&work[below..])
 }
 
 // The column that is formed in the work memory, judged, and written to the matrix where it is accepted.
-fn finish_column(matrix: &mut [f64], work: &mut [f64], n: usize, j: usize) -> CallResult
+fn finish_column(matrix: &mut [f64], work: &mut [f64], n: usize, j: usize) -> Verdict
     requires { ⌜ Column n j (now matrix) ⌝ }
     requires { ⌜ length (now work) ≡ n ⌝ }
     requires { ⌜ Reduced n (now matrix) j j j n (now work) ⌝ }
     ensures { λ r. ⌜ Judged n j (now (matrix .entry)) r (now (matrix .exit)) ⌝ }
     ensures { λ _. ⌜ Same 0 j (now (work .entry)) (now (work .exit)) ⌝ }
 {
-    match binary64::judge(work[j]) {
-        Pivot::Refused(value) => CallResult {
-            code: 10,
-            place: j,
-            value,
-        },
+    let pivot = binary64::judge(work[j]);
+    match pivot {
+        Pivot::Refused(_) => checks::judge_column(j, pivot, true),
         Pivot::Root(diagonal) => {
-            if !divide_rows(work, j, diagonal) {
-                return calls::refusal(11, j);
+            let finite = divide_rows(work, j, diagonal);
+            let verdict = checks::judge_column(j, pivot, finite);
+            if calls::accepted(verdict) {
+                store_column(matrix, work, n, j);
             }
-            store_column(matrix, work, n, j);
-            calls::refusal(0, 0)
+            verdict
         }
     }
 }
@@ -404,7 +403,7 @@ fn factor_column(
     j: usize,
     top: usize,
     next: usize,
-) -> CallResult
+) -> Verdict
     requires { ⌜ Column n j (now matrix) ⌝ }
     requires { ⌜ length (now work) ≡ n ⌝ }
     requires { ⌜ Tops n j top next ⌝ }
@@ -436,7 +435,7 @@ fn next_top(n: usize, j: usize, top: usize) -> usize
 }
 
 // The columns in rising order, and none after the first that is refused.
-fn factor_columns(matrix: &mut [f64], work: &mut [f64], n: usize) -> CallResult
+fn factor_columns(matrix: &mut [f64], work: &mut [f64], n: usize) -> Verdict
     requires { ⌜ (n ≤ maxOrder) × (length (now matrix) ≡ triangle n) × (length (now work) ≡ n) ⌝ }
     ensures { λ r. ⌜ Factored n (now (matrix .entry)) r (now (matrix .exit)) ⌝ }
 {
@@ -455,13 +454,13 @@ fn factor_columns(matrix: &mut [f64], work: &mut [f64], n: usize) -> CallResult
 }
 
 // All columns, with the work memory cleared afterwards.
-fn factor_cleared(matrix: &mut [f64], work: &mut [f64], n: usize) -> CallResult
+fn factor_cleared(matrix: &mut [f64], work: &mut [f64], n: usize) -> Verdict
     requires { ⌜ (n ≤ maxOrder) × (length (now matrix) ≡ triangle n) × (length (now work) ≡ n) ⌝ }
     ensures { λ r. ⌜ Factored n (now (matrix .entry)) r (now (matrix .exit)) ⌝ }
     ensures { λ _. ⌜ now (work .exit) ≡ replicate n zero64 ⌝ }
 {
     let result = factor_columns(matrix, work, n);
-    calls::clear(work);
+    checks::clear(work);
     result
 }
 
@@ -469,10 +468,10 @@ fn factor_cleared(matrix: &mut [f64], work: &mut [f64], n: usize) -> CallResult
 pub fn factor(shape: Shape, matrix: &mut [f64], work: &mut [f64]) -> CallResult
     ensures { λ r. ⌜ DoneAs (factorize Layout.Packed (shape .order) (shape .block) (now (matrix .entry)) (now (work .entry))) r (now (matrix .exit)) (now (work .exit)) ⌝ }
 {
-    let checks = calls::check_factor(Layout::Packed, shape, matrix, work.len());
+    let checks = checks::check_factor(Layout::Packed, shape, matrix, work.len());
     if !calls::accepted(checks) {
-        return checks;
+        return calls::result(checks);
     }
     let n = shape.order;
-    factor_cleared(matrix, &mut work[..n], n)
+    calls::result(factor_cleared(matrix, &mut work[..n], n))
 }

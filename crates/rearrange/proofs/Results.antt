@@ -9,10 +9,10 @@ use lib.Seq.{length-take-le}
 use lib.Ieee.{Float}
 use Rattle.binary64.specs.Kinds.{zero64}
 use Rattle.shape.specs.Places.{blockWork}
-use Rattle.calls.specs.declared.CallResult.{CallResult}
+use Rattle.calls.specs.declared.Verdict.{Verdict}
 use Rattle.calls.specs.declared.Layout.{Layout}
 use Rattle.calls.specs.Refusals.{accepted}
-use Rattle.calls.specs.Calls.{DoneAs, clear, rearrangerChecks, moved, rearrange}
+use Rattle.calls.specs.Calls.{DoneAs, resultOf, clear, rearrangerChecks, moved, rearrange}
 use Rattle.calls.proofs.CheckLaws.{RearrangerAccepted, rearranger-accepted, rearranger-success}
 
 -- the lent part is +0, the rest as it was
@@ -26,7 +26,7 @@ cleared needed l work part same fit zeros =
     ap (λ (p : List Float). p ++ drop l work) (zeros ∙ ap (λ (k : ℕ). replicate k zero64) (length-take-le l work fit))
     ∙ ap (λ (k : ℕ). replicate k zero64 ++ drop k work) same
 
-module _ (n b : ℕ) (m work : List Float) (r : CallResult) (checks : r ≡ rearrangerChecks n b (length m) (length work)) where
+module _ (n b : ℕ) (m work : List Float) (r : Verdict) (checks : r ≡ rearrangerChecks n b (length m) (length work)) where
   passed : accepted r ≡ true → T (accepted (rearrangerChecks n b (length m) (length work)))
   passed h = let g : accepted (rearrangerChecks n b (length m) (length work)) ≡ true = cc in rw g tt
 
@@ -34,22 +34,22 @@ module _ (n b : ℕ) (m work : List Float) (r : CallResult) (checks : r ≡ rear
   accepted-sizes h = rearranger-accepted n b (length m) (length work) (passed h)
 
   module _ (from to : Layout) where
-    pub refused-done : accepted r ≡ false → DoneAs (rearrange from to n b m work) r m work
+    pub refused-done : accepted r ≡ false → DoneAs (rearrange from to n b m work) (resultOf r) m work
     unfolding rearrange
     refused-done h =
         let g : accepted (rearrangerChecks n b (length m) (length work)) ≡ false = cc in
-        record { result = rw g checks; matrix = rw g refl; work = rw g refl }
+        record { result = rw g (ap resultOf checks); matrix = rw g refl; work = rw g refl }
 
     pub accepted-done : {m′ work′ : List Float}
         → accepted r ≡ true
         → m′ ≡ moved from to n b m
         → work′ ≡ clear (blockWork n b) work
-        → DoneAs (rearrange from to n b m work) r m′ work′
+        → DoneAs (rearrange from to n b m work) (resultOf r) m′ work′
     unfolding rearrange
     accepted-done h matrix cleared =
         let g : accepted (rearrangerChecks n b (length m) (length work)) ≡ true = cc in
         record {
-          result = rw g (checks ∙ rearranger-success n b (length m) (length work) (passed h));
+          result = rw g (ap resultOf (checks ∙ rearranger-success n b (length m) (length work) (passed h)));
           matrix = rw g matrix;
           work = rw g cleared;
         }

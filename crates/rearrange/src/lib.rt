@@ -44,19 +44,19 @@ fn move_and_clear(to: Layout, shape: Shape, matrix: &mut [f64], work: &mut [f64]
     ensures { λ _. ⌜ now (work .exit) ≡ replicate (length (now (work .entry))) zero64 ⌝ }
 {
     move_blocks(to, shape, matrix, work);
-    calls::clear(work);
+    checks::clear(work);
 }
 
 fn rearrange_to(to: Layout, shape: Shape, matrix: &mut [f64], work: &mut [f64]) -> CallResult
     ensures { λ r. ⌜ DoneAs (rearrange (other to) to (shape .order) (shape .block) (now (matrix .entry)) (now (work .entry))) r (now (matrix .exit)) (now (work .exit)) ⌝ }
 {
-    let checks = calls::check_rearranger(shape, matrix.len(), work.len());
+    let checks = checks::check_rearranger(shape, matrix.len(), work.len());
     if !calls::accepted(checks) {
-        return checks;
+        return calls::result(checks);
     }
     let needed = shape.block_work();
     move_and_clear(to, shape, matrix, &mut work[..needed]);
-    checks
+    calls::result(checks)
 }
 
 pub fn packed_to_blocked(shape: Shape, matrix: &mut [f64], work: &mut [f64]) -> CallResult

@@ -7,17 +7,17 @@ use lib.ListN.{length, take, drop, replicate}
 use lib.Seq.{length-take-le}
 use lib.Ieee.{Float}
 use Rattle.binary64.specs.Kinds.{zero64}
-use Rattle.calls.specs.declared.CallResult.{CallResult}
+use Rattle.calls.specs.declared.Verdict.{Verdict}
 use Rattle.calls.specs.declared.Layout.{Layout}
 use Rattle.calls.specs.Refusals.{accepted}
-use Rattle.calls.specs.Calls.{SolvedAs, clear, solverChecks, solutions, solved, solve}
+use Rattle.calls.specs.Calls.{SolvedAs, resultOf, clear, solverChecks, solutions, solved, solve}
 use Rattle.calls.proofs.CheckLaws.{SolverAccepted, solver-accepted}
 use Rattle.solve.specs.Solving.{Checked, factorOf, AllSolved}
 
-module _ (layout : Layout) (n b m : ℕ) (a rhs w : List Float) (checks : CallResult) (e : checks ≡ solverChecks layout n b m a rhs (length w)) where
-  pub checks-refused : accepted checks ≡ false → SolvedAs (solve layout n b m a rhs w) checks rhs w
+module _ (layout : Layout) (n b m : ℕ) (a rhs w : List Float) (checks : Verdict) (e : checks ≡ solverChecks layout n b m a rhs (length w)) where
+  pub checks-refused : accepted checks ≡ false → SolvedAs (solve layout n b m a rhs w) (resultOf checks) rhs w
   unfolding solve
-  checks-refused f = rw (ap accepted (sym e) ∙ f) (record { result = e; rhs = refl; work = refl })
+  checks-refused f = rw (ap accepted (sym e) ∙ f) (record { result = ap resultOf e; rhs = refl; work = refl })
 
   module _ (t : accepted checks ≡ true) where
     checks-accepted : SolverAccepted layout n b m a rhs (length w)
@@ -38,13 +38,13 @@ module _ (layout : Layout) (n b m : ℕ) (a rhs w : List Float) (checks : CallRe
     rhs-length = checks-accepted .rhsLength
 
     pub all-done :
-        (r : CallResult) (rhs′ : List Float) → AllSolved n m (factorOf layout n b a) rhs r rhs′ →
-        SolvedAs (solve layout n b m a rhs w) r rhs′ (replicate n zero64 ++ drop n w)
+        (r : Verdict) (rhs′ : List Float) → AllSolved n m (factorOf layout n b a) rhs r rhs′ →
+        SolvedAs (solve layout n b m a rhs w) (resultOf r) rhs′ (replicate n zero64 ++ drop n w)
     unfolding solve solved clear
     all-done r rhs′ f =
         rw (ap accepted (sym e) ∙ t)
         (record {
-          result = f .result;
+          result = ap resultOf (f .result);
           rhs = f .kept ∙ ap (λ v. solutions n (factorOf layout n b a) (cond (accepted v) m (v .place)) rhs) (f .result);
           work = refl;
         })

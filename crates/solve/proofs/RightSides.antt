@@ -11,7 +11,7 @@ use lib.ListN.{length, take, drop, length-append, length-drop, take-append-drop}
 use lib.Seq.{take-at, drop-at, drop-drop}
 use lib.Ieee.{Float}
 use Rattle.binary64.specs.Kinds.{finite, zero64}
-use Rattle.calls.specs.declared.CallResult.{CallResult}
+use Rattle.calls.specs.declared.Verdict.{Verdict}
 use Rattle.calls.specs.Sequences.{iterate, all}
 use Rattle.calls.specs.Triangles.{Triangle}
 use Rattle.calls.specs.Arithmetic.{forward, backward}
@@ -45,15 +45,6 @@ module _ (n : ℕ) (l : Triangle) (rhs : List Float) where
         solved = λ e. is;
       }
 
-  pub one-refused : (w : List Float) (r : Bool) (w′ : List Float) → w ≡ rhs → Substituted n l w r w′ → not r ≡ true → RhsSolved n l rhs false rhs
-  one-refused w r w′ e s nr =
-      record { verdict = sym (not-true r nr) ∙ s .verdict ∙ ap (passes n l) e; kept = refl }
-
-  pub one-solved :
-      (w : List Float) (r : Bool) (w′ rhs′ : List Float) → w ≡ rhs → Substituted n l w r w′ → not r ≡ false → rhs′ ≡ w′ → RhsSolved n l rhs true rhs′
-  one-solved w r w′ rhs′ e s nr c =
-      record { verdict = sym (not-false r nr) ∙ s .verdict ∙ ap (passes n l) e; kept = c ∙ s .solved (not-false r nr) ∙ ap (solution n l) e }
-
 -- ---- all of them
 
 module _ (n : ℕ) (l : Triangle) (rhs : List Float) where
@@ -61,7 +52,7 @@ module _ (n : ℕ) (l : Triangle) (rhs : List Float) where
   abbrev pub solvedFirst : ℕ → List Float
   solvedFirst q = iterate (λ k done. done ++ solution n l (rhsPart n k rhs)) q []
 
-  abbrev pub judgeRhs : ℕ → CallResult
+  abbrev pub judgeRhs : ℕ → Verdict
   judgeRhs q = rule12 q (forward n l (rhsPart n q rhs)) (solution n l (rhsPart n q rhs))
 
   length-solved : (q : ℕ) → length (solvedFirst q) ≡ q * n
@@ -121,7 +112,7 @@ module _ (n : ℕ) (l : Triangle) (rhs : List Float) where
   lowest-passed q e h = lowest-next judgeRhs q h ∙ judge-passed q e
 
   all-refused :
-      (m q : ℕ) (r : CallResult) (rhs′ : List Float) → q < m → lowestRefusal judgeRhs q ≡ success → passes n l (rhsPart n q rhs) ≡ false →
+      (m q : ℕ) (r : Verdict) (rhs′ : List Float) → q < m → lowestRefusal judgeRhs q ≡ success → passes n l (rhsPart n q rhs) ≡ false →
       r ≡ refusal 12 q zero64 → rhs′ ≡ solutions n l q rhs → AllSolved n m l rhs r rhs′
   unfolding rhsVerdict
   all-refused m q r rhs′ h before fails er e =
@@ -132,7 +123,7 @@ module _ (n : ℕ) (l : Triangle) (rhs : List Float) where
       }
 
   pub all-solved :
-      (m : ℕ) (r : CallResult) (rhs′ : List Float) → lowestRefusal judgeRhs m ≡ success → r ≡ success → rhs′ ≡ solutions n l m rhs →
+      (m : ℕ) (r : Verdict) (rhs′ : List Float) → lowestRefusal judgeRhs m ≡ success → r ≡ success → rhs′ ≡ solutions n l m rhs →
       AllSolved n m l rhs r rhs′
   unfolding rhsVerdict
   all-solved m r rhs′ before er e = record { result = er ∙ sym before; kept = rw er e }
@@ -153,7 +144,7 @@ module _ (n m : ℕ) (l : Triangle) (rhs : List Float) (q from k : ℕ) (s part�
         ∙ ap (λ x. take from s ++ x) (take-append-drop k (drop from s)) ∙ take-append-drop from s
 
     pub turn-refused :
-        (r : CallResult) → q < m → not passed ≡ true → r ≡ refusal 12 q zero64 →
+        (r : Verdict) → q < m → not passed ≡ true → r ≡ refusal 12 q zero64 →
         AllSolved n m l rhs r (take from s ++ (part′ ++ drop k (drop from s)))
     turn-refused r h np er =
         all-refused n l rhs m q r (take from s ++ (part′ ++ drop k (drop from s))) h before

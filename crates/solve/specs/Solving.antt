@@ -9,7 +9,7 @@ use lib.Ieee.{Float}
 use Rattle.binary64.specs.Kinds.{finite}
 use Rattle.shape.specs.Bounds.{maxOrder}
 use Rattle.shape.specs.Places.{triangle}
-use Rattle.calls.specs.declared.CallResult.{CallResult}
+use Rattle.calls.specs.declared.Verdict.{Verdict}
 use Rattle.calls.specs.declared.Layout.{Layout}
 use Rattle.calls.specs.declared.Call.the-variants.{Solver}
 use Rattle.calls.specs.Sequences.{all}
@@ -41,6 +41,6 @@ pub record RhsSolved (n : ℕ) (l : Triangle) (rhs : List Float) (passed : Bool)
   pub verdict : passed ≡ passes n l rhs
   pub kept : rhs′ ≡ cond passed (solution n l rhs) rhs
 
-pub record AllSolved (n m : ℕ) (l : Triangle) (rhs : List Float) (r : CallResult) (rhs′ : List Float) : Type 0 where
+pub record AllSolved (n m : ℕ) (l : Triangle) (rhs : List Float) (r : Verdict) (rhs′ : List Float) : Type 0 where
   pub result : r ≡ rhsVerdict n m l rhs
   pub kept : rhs′ ≡ solutions n l (cond (accepted r) m (r .place)) rhs

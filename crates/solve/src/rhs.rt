@@ -11,6 +11,7 @@ use crate::blocked;
 use crate::plain;
 use calls::CallResult;
 use calls::Layout;
+use calls::Verdict;
 use shape::Shape;
 
 fn forward(layout: Layout, shape: Shape, matrix: &[f64], work: &mut [f64])
@@ -41,11 +42,11 @@ fn substitute(layout: Layout, shape: Shape, matrix: &[f64], work: &mut [f64]) ->
     ensures { λ r. ⌜ Substituted (shape .order) (factorOf layout (shape .order) (shape .block) (now (matrix .entry))) (now (work .entry)) r (now (work .exit)) ⌝ }
 {
     forward(layout, shape, matrix, work);
-    if !calls::all_finite(work) {
+    if !checks::all_finite(work) {
         return false;
     }
     backward(layout, shape, matrix, work);
-    calls::all_finite(work)
+    checks::all_finite(work)
 }
 
 // The solution takes the right-hand side's place where it passes.
@@ -76,7 +77,7 @@ fn solve_all(
     matrix: &[f64],
     rhs: &mut [f64],
     work: &mut [f64],
-) -> CallResult
+) -> Verdict
     requires { ⌜ Checked layout (shape .order) (shape .block) (now matrix) (now work) ⌝ }
     requires { ⌜ length (now rhs) ≡ shape .order * m ⌝ }
     ensures { λ r. ⌜ AllSolved (shape .order) m (factorOf layout (shape .order) (shape .block) (now (matrix .entry))) (now (rhs .entry)) r (now (rhs .exit)) ⌝ }
@@ -103,14 +104,14 @@ fn solve_cleared(
     matrix: &[f64],
     rhs: &mut [f64],
     work: &mut [f64],
-) -> CallResult
+) -> Verdict
     requires { ⌜ Checked layout (shape .order) (shape .block) (now matrix) (now work) ⌝ }
     requires { ⌜ length (now rhs) ≡ shape .order * m ⌝ }
     ensures { λ r. ⌜ AllSolved (shape .order) m (factorOf layout (shape .order) (shape .block) (now (matrix .entry))) (now (rhs .entry)) r (now (rhs .exit)) ⌝ }
     ensures { λ _. ⌜ now (work .exit) ≡ replicate (shape .order) zero64 ⌝ }
 {
     let result = solve_all(layout, shape, m, matrix, rhs, work);
-    calls::clear(work);
+    checks::clear(work);
     result
 }
 
@@ -125,10 +126,10 @@ pub fn solve(
 ) -> CallResult
     ensures { λ r. ⌜ SolvedAs (Calls.solve layout (shape .order) (shape .block) m (now (matrix .entry)) (now (rhs .entry)) (now (work .entry))) r (now (rhs .exit)) (now (work .exit)) ⌝ }
 {
-    let checks = calls::check_solver(layout, shape, m, matrix, rhs, work.len());
+    let checks = checks::check_solver(layout, shape, m, matrix, rhs, work.len());
     if !calls::accepted(checks) {
-        return checks;
+        return calls::result(checks);
     }
     let n = shape.order;
-    solve_cleared(layout, shape, m, matrix, rhs, &mut work[..n])
+    calls::result(solve_cleared(layout, shape, m, matrix, rhs, &mut work[..n]))
 }

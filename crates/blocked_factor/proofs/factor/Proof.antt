@@ -1,8 +1,12 @@
 -- `blocked_factor::factor` meets its contract. Assumes nothing.
-use mathlib.Core.Path.{sym}
+use Prim.Native.Nat.{_≤_}
+use mathlib.Core.Path.{_≡_, sym}
+use mathlib.Core.Bool.{true}
+use lib.ListN.{length}
 use lib.Seq.{length-take-le}
-use Rattle.calls.proofs.Judging.{refused-of, accepted-of}
 use Rattle.calls.specs.declared.Layout.the-variants.{Blocked}
+use Rattle.calls.specs.Refusals.{accepted}
+use Rattle.calls.proofs.Judging.{refused-of, accepted-of}
 use Rattle.calls.proofs.CheckLaws.{factor-refused, factor-passed}
 use Rattle.blocked_factor.proofs.BlockOutcomes.{work-fits, blocks-sized, blocks-done}
 use borrow.Author.Needs.{needs}
@@ -15,51 +19,52 @@ check-factor-requires c κs = search needs
 accepted-requires : tie.Need-accepted-requires
 accepted-requires c κs = search needs
 
+result-requires : tie.Need-result-requires
+result-requires c κs = search needs
+
 same-length : tie.Need-same-length
 same-length c = search needs
 
 returns : tie.Need-returns
 returns c =
-    let a = c .before .before .before .before .before .before .args in
-    let checks = c .before .before .check-factor in
-    factor-refused Blocked (a .shape .order) (a .shape .block) (a .matrix .now) (a .work .now) (checks .result) (checks .ensures)
-    (refused-of (c .before .accepted .result) (checks .result) (c .before .accepted .ensures) (c .if1 .taken))
+    let a = c .before .before .before .before .before .before .before .args in
+    let checks = c .before .before .before .check-factor in
+    rw (c .result .ensures)
+    (factor-refused Blocked (a .shape .order) (a .shape .block) (a .matrix .now) (a .work .now) (checks .result) (checks .ensures)
+    (refused-of (c .before .before .accepted .result) (checks .result) (c .before .before .accepted .ensures) (c .before .if1 .taken)))
+
+-- past the checks
+passed : (c : tie.Else1) → accepted (c .before .before .check-factor .result) ≡ true
+passed c = accepted-of (c .before .accepted .result) (c .before .before .check-factor .result) (c .before .accepted .ensures) (c .if1 .left)
+
+fits : (c : tie.After-block-work) → c .block-work .result ≤ length (c .before .before .before .before .before .before .before .args .work .now)
+fits c =
+    let a = c .before .before .before .before .before .before .before .args in
+    let checks = c .before .before .before .check-factor in
+    work-fits (a .shape .order) (a .shape .block) (a .matrix .now) (a .work .now) (checks .result) (checks .ensures) (passed (c .before))
+    (c .block-work .result) (c .block-work .ensures)
 
 block-work-requires : tie.Need-block-work-requires
 block-work-requires c κs =
     let a = c .before .before .before .before .before .before .args in
     let checks = c .before .before .check-factor in
-    factor-passed Blocked (a .shape .order) (a .shape .block) (a .matrix .now) (a .work .now) (checks .result) (checks .ensures)
-    (accepted-of (c .before .accepted .result) (checks .result) (c .before .accepted .ensures) (c .if1 .left))
-    .sizes .order
+    factor-passed Blocked (a .shape .order) (a .shape .block) (a .matrix .now) (a .work .now) (checks .result) (checks .ensures) (passed c) .sizes .order
 
 slice-relend-prefix-factor-blocks-cleared : tie.Need-slice-relend-prefix-factor-blocks-cleared
-slice-relend-prefix-factor-blocks-cleared c =
-    let accepted = c .before .before .before .accepted in
-    let a = c .before .before .before .before .before .before .before .before .args in
-    let checks = c .before .before .before .before .check-factor in
-    work-fits (a .shape .order) (a .shape .block) (a .matrix .now) (a .work .now) (checks .result) (checks .ensures)
-    (accepted-of (accepted .result) (checks .result) (accepted .ensures) (c .before .before .if1 .left))
-    (c .before .block-work .result) (c .before .block-work .ensures)
+slice-relend-prefix-factor-blocks-cleared c = fits (c .before)
 
 slice-aggregate-factor-blocks-cleared : tie.Need-slice-aggregate-factor-blocks-cleared
-slice-aggregate-factor-blocks-cleared c =
-    let accepted = c .before .before .before .before .accepted in
-    let a = c .before .before .before .before .before .before .before .before .before .args in
-    let checks = c .before .before .before .before .before .check-factor in
-    sym (length-take-le (c .before .before .block-work .result) (a .work .now)
-    (work-fits (a .shape .order) (a .shape .block) (a .matrix .now) (a .work .now) (checks .result) (checks .ensures)
-    (accepted-of (accepted .result) (checks .result) (accepted .ensures) (c .before .before .before .if1 .left))
-    (c .before .before .block-work .result) (c .before .before .block-work .ensures)))
+slice-aggregate-factor-blocks-cleared c = sym (length-take-le _ _ (fits (c .before .before)))
 
 factor-blocks-cleared-requires : tie.Need-factor-blocks-cleared-requires
 factor-blocks-cleared-requires c κs =
-    let accepted = c .before .before .before .before .accepted in
     let a = c .before .before .before .before .before .before .before .before .before .args in
     let checks = c .before .before .before .before .before .check-factor in
-    blocks-sized (a .shape .order) (a .shape .block) (a .matrix .now) (a .work .now) (checks .result) (checks .ensures)
-    (accepted-of (accepted .result) (checks .result) (accepted .ensures) (c .before .before .before .if1 .left))
+    blocks-sized (a .shape .order) (a .shape .block) (a .matrix .now) (a .work .now) (checks .result) (checks .ensures) (passed (c .before .before .before))
     (c .before .before .block-work .result) (c .before .before .block-work .ensures)
+
+result-requires-2 : tie.Need-result-requires-2
+result-requires-2 c κs = search needs
 
 same-length-2 : tie.Need-same-length-2
 same-length-2 c = search needs
@@ -69,16 +74,13 @@ same-length-3 c = search needs
 
 returns-2 : tie.Need-returns-2
 returns-2 c =
-    let accepted = c .before .before .before .before .before .before .before .before .before .accepted in
-    let block-work = c .before .before .before .before .before .before .before .block-work in
-    let a = c .before .before .before .before .before .before .before .before .before .before .before .before .before .before .args in
-    let checks = c .before .before .before .before .before .before .before .before .before .before .check-factor in
-    let done = c .before .before .before .before .factor-blocks-cleared in
-    rw (done .ensures .1)
+    let a = c .before .before .before .before .before .before .before .before .before .before .before .before .before .before .before .args in
+    let checks = c .before .before .before .before .before .before .before .before .before .before .before .check-factor in
+    let done = c .before .before .before .before .before .factor-blocks-cleared in
+    rw (c .result2 .ensures, done .ensures .1)
     (blocks-done (a .shape .order) (a .shape .block) (a .matrix .now) (a .work .now) (checks .result) (checks .ensures)
-    (accepted-of (accepted .result) (checks .result) (accepted .ensures)
-    (c .before .before .before .before .before .before .before .before .if1 .left))
-    (block-work .result) (block-work .ensures) (done .result) (done .last .0) (done .ensures .0))
+    (passed (c .before .before .before .before .before .before .before .before .before)) (c .before .before .before .before .before .before .before .before .block-work .result) (c .before .before .before .before .before .before .before .before .block-work .ensures) (done .result) (done .last .0)
+    (done .ensures .0))
 
 pub factor-spec : {M : Type 1} → statement M
 factor-spec =
@@ -86,12 +88,14 @@ factor-spec =
     (tie.spec
     check-factor-requires
     accepted-requires
+    result-requires
     same-length
     returns
     block-work-requires
     slice-relend-prefix-factor-blocks-cleared
     slice-aggregate-factor-blocks-cleared
     factor-blocks-cleared-requires
+    result-requires-2
     same-length-2
     same-length-3
     returns-2)

@@ -5,8 +5,10 @@ use mathlib.Core.Path.{_≡_, refl, _∙_}
 use borrow.Author.Needs.{needs}
 use lib.ListN.{length}
 use Rattle.shape.specs.Places.{blockOf}
-use Rattle.shape.proofs.Blocks.{block-of-le, width-le, width-pos}
+use Rattle.shape.proofs.Blocks.{block-of-le, width-pos}
 use Rattle.calls.proofs.Judging.{accepted-of, refused-of}
+use Rattle.blocked_factor.specs.BlockSteps.{BlockAt}
+use Rattle.blocked_factor.proofs.EarlierBlocks.{inside-le}
 use Rattle.blocked_factor.proofs.BlockLoop.{Reached, block-at, next-first, reached-none, reached-next, blocks-refused, blocks-all}
 use Rattle.blocked_factor.proofs.factor_blocks.Statement.{statement}
 use Rattle.blocked_factor.proofs.factor_blocks.Tie as tie
@@ -21,84 +23,60 @@ abbrev μ-loop : tie.MeasureT-loop
 loop-holds : tie.Need-loop-holds Inv-loop μ-loop
 loop-holds c = (omega arith, (λ h. omega (arith, block-of-le (c .before .before .args .shape .block) 0)), refl, reached-none _ _ _)
 
+-- the block column of a turn
+here :
+    (c : tie.In-loop Inv-loop μ-loop) →
+    let a = c .before .before .before .before .args in
+    BlockAt (a .shape .order) (a .shape .block) (c .before .loop .c) (length (c .before .loop .m))
+here c =
+    let l = c .before .loop in
+    block-at (l .c) _ (c .before .before .before .before .pre) (l .inv .3 .kept) (c .loop-test .taken) (l .inv .1 (c .loop-test .taken))
+
 factor-step-requires : tie.Need-factor-step-requires Inv-loop μ-loop
-factor-step-requires c κs =
-    let pre = c .before .before .before .before .before .before .pre in
-    let l = c .before .before .before .loop in (
-      block-at (l .c) _ (pre) (l .inv .3 .kept) (c .before .before .loop-test .taken)
-          (l .inv .1 (c .before .before .loop-test .taken)),
-      (l .inv .2 ∙ pre .work),
-    )
+factor-step-requires c κs = (here (c .before .before), c .before .before .before .loop .inv .2 ∙ c .before .before .before .before .before .before .pre .work)
 
 accepted-requires : tie.Need-accepted-requires Inv-loop μ-loop
 accepted-requires c κs = search needs
 
 same-length : tie.Need-same-length Inv-loop μ-loop
-same-length c =
-    let l = c .before .before .before .before .before .before .before .before .before .before .loop in
-    c .before .before .before .before .before .before .factor-step .ensures .kept ∙ l .inv .3 .kept
+same-length c = c .before .before .before .before .before .before .factor-step .ensures .kept ∙ c .before .before .before .before .before .before .before .before .before .before .loop .inv .3 .kept
 
 same-length-2 : tie.Need-same-length-2 Inv-loop μ-loop
-same-length-2 c =
-    let l = c .before .before .before .before .before .before .before .before .before .before .loop in
-    c .before .before .before .before .before .before .factor-step .kept .1 .0 ∙ l .inv .2
+same-length-2 c = c .before .before .before .before .before .before .factor-step .kept .1 .0 ∙ c .before .before .before .before .before .before .before .before .before .before .loop .inv .2
 
 returns : tie.Need-returns Inv-loop μ-loop
 returns c =
-    let factor-step = c .before .before .before .before .before .before .factor-step in
-    let loop-test = c .before .before .before .before .before .before .before .before .before .loop-test in
-    let pre = c .before .before .before .before .before .before .before .before .before .before .before .before .before .pre in
-    let a = c .before .before .before .before .before .before .before .before .before .before .before .before .before .args in
-    let l = c .before .before .before .before .before .before .before .before .before .before .loop in
-    blocks-refused (a .m .now) (l .m) _ (factor-step .result) (block-at (l .c) _ (pre) (l .inv .3 .kept) (loop-test .taken)
-    (l .inv .1 (loop-test .taken))) (l .inv .3) (factor-step .ensures)
-    (refused-of (c .before .accepted .result) (factor-step .result) (c .before .accepted .ensures) (c .if1 .taken))
+    let judged = c .before .accepted in
+    let step = c .before .before .before .before .before .before .factor-step in
+    let refused = refused-of (judged .result) (step .result) (judged .ensures) (c .if1 .taken) in
+    blocks-refused (here (c .before .before .before .before .before .before .before .before .before)) (c .before .before .before .before .before .before .before .before .before .before .loop .inv .3) (step .ensures) refused
 
 block-width-requires : tie.Need-block-width-requires Inv-loop μ-loop
 block-width-requires c κs = omega (arith, c .before .before .before .before .before .before .before .before .before .loop-test .taken)
 
 add-next : tie.Need-add-next Inv-loop μ-loop
 add-next c =
-    let a = c .before .before .before .before .before .before .before .before .before .before .before .before .before .before .args in
-    let pre = c .before .before .before .before .before .before .before .before .before .before .before .before .before .before .pre in
-    let l = c .before .before .before .before .before .before .before .before .before .before .before .loop in
-    omega (
-      arith,
-      pre .order,
-      c .block-width .ensures,
-      width-le (a .shape .order) (a .shape .block) (l .c),
-      c .before .before .before .before .before .before .before .before .before .before .loop-test .taken,
-    )
+    let now = here (c .before .before .before .before .before .before .before .before .before .before) in
+    omega (arith, c .block-width .ensures, inside-le now, now .order)
 
 loop-less : tie.Need-loop-less Inv-loop μ-loop
 loop-less c =
     let a = c .before .before .before .before .before .before .before .before .before .before .before .before .before .before .args in
-    let pre = c .before .before .before .before .before .before .before .before .before .before .before .before .before .before .pre in
-    let l = c .before .before .before .before .before .before .before .before .before .before .before .loop in
-    let loop-test = c .before .before .before .before .before .before .before .before .before .before .loop-test in
-    omega (
-      arith,
-      pre .block,
-      c .block-width .ensures,
-      width-pos (a .shape .order) (a .shape .block) (l .c) (pre .block) (loop-test .taken),
-      width-le (a .shape .order) (a .shape .block) (l .c),
-      loop-test .taken,
-    )
+    let now = here (c .before .before .before .before .before .before .before .before .before .before) in
+    omega (arith, c .block-width .ensures, inside-le now, width-pos (a .shape .order) (a .shape .block) (c .before .before .before .before .before .before .before .before .before .before .before .loop .c) (now .block) (now .inside))
 
 loop-again : tie.Need-loop-again Inv-loop μ-loop
 loop-again c =
-    let factor-step = c .before .before .before .before .before .before .before .factor-step in
-    let loop-test = c .before .before .before .before .before .before .before .before .before .before .loop-test in
-    let pre = c .before .before .before .before .before .before .before .before .before .before .before .before .before .before .pre in
-    let a = c .before .before .before .before .before .before .before .before .before .before .before .before .before .before .args in
+    let judged = c .before .before .accepted in
+    let step = c .before .before .before .before .before .before .before .factor-step in
     let l = c .before .before .before .before .before .before .before .before .before .before .before .loop in
-    let here = block-at (l .c) (length (l .m)) (pre) (l .inv .3 .kept) (loop-test .taken) (l .inv .1 (loop-test .taken)) in
-    rw (c .block-width .ensures) (
-      omega (arith, width-le (a .shape .order) (a .shape .block) (l .c), loop-test .taken),
-      (λ inside. next-first here inside),
-      (factor-step .kept .1 .0 ∙ l .inv .2),
-      reached-next (a .m .now) (l .m) _ (factor-step .result) here (l .inv .3) (factor-step .ensures)
-          (accepted-of (c .before .before .accepted .result) (factor-step .result) (c .before .before .accepted .ensures) (c .before .if1 .left)),
+    let now = here (c .before .before .before .before .before .before .before .before .before .before) in
+    let accepted = accepted-of (judged .result) (step .result) (judged .ensures) (c .before .if1 .left) in
+    let same = c .block-width .ensures in (
+      omega (arith, same, inside-le now),
+      rw (← same) at (next-first now),
+      step .kept .1 .0 ∙ l .inv .2,
+      rw (← same) at (reached-next now (l .inv .3) (step .ensures) accepted),
     )
 
 refusal-requires : tie.Need-refusal-requires Inv-loop μ-loop
@@ -112,10 +90,9 @@ same-length-4 c = c .before .before .loop .inv .2
 
 returns-2 : tie.Need-returns-2 Inv-loop μ-loop
 returns-2 c =
-    let a = c .before .before .before .before .before .args in
     let l = c .before .before .loop in
-    let e : l .c ≡ a .shape .order = omega (arith, c .before .loop-test .left, l .inv .0) in
-    rw (c .refusal .ensures) (blocks-all (a .shape .order) (a .shape .block) (a .m .now) (l .m) (rw e at (l .inv .3)))
+    let e : l .c ≡ c .before .before .before .before .before .args .shape .order = omega (arith, c .before .loop-test .left, l .inv .0) in
+    rw (c .refusal .ensures) (blocks-all (rw e at (l .inv .3)))
 
 pub factor-blocks-spec : {M : Type 1} → statement M
 factor-blocks-spec =

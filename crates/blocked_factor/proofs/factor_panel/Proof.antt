@@ -1,7 +1,9 @@
 -- `blocked_factor::factor_panel` meets its contract. Assumes nothing.
+use Prim.Native.Nat.{_+_}
 use native.Mathlib.Omega.{arith}
+use Rattle.blocked_factor.proofs.BlockRows.{row-mono}
 use Rattle.blocked_factor.proofs.Panels.{own-source}
-use Rattle.blocked_factor.proofs.Runs.{panel-factored}
+use Rattle.blocked_factor.proofs.Finishing.{panel-finished}
 use borrow.Author.Needs.{needs}
 use Rattle.blocked_factor.proofs.factor_panel.Statement.{statement}
 use Rattle.blocked_factor.proofs.factor_panel.Tie as tie
@@ -12,11 +14,20 @@ update-panel-requires c κs =
     let a = c .before .before .before .before .args in
     (own-source _ (a .width) (a .rows) (a .s0) (a .g) (omega (arith, pre)) (omega (arith, pre)) (omega (arith, pre)) (omega (arith, pre)), pre .1)
 
-add-finish-panel : tie.Need-add-finish-panel
-add-finish-panel c = search needs
+add-finish-triangle : tie.Need-add-finish-triangle
+add-finish-triangle c = search needs
 
-finish-panel-requires : tie.Need-finish-panel-requires
-finish-panel-requires c κs = search needs
+finish-triangle-requires : tie.Need-finish-triangle-requires
+finish-triangle-requires c κs =
+    let pre = c .before .before .before .before .before .before .before .before .before .before .pre in
+    let a = c .before .before .before .before .before .before .before .before .before .before .args in
+    omega (arith, pre, c .before .before .before .before .before .update-panel .ensures .kept, row-mono (a .width) (a .s0 + a .g) (a .rows) (omega (arith, pre)))
+
+add-finish-below : tie.Need-add-finish-below
+add-finish-below c = search needs
+
+finish-below-requires : tie.Need-finish-below-requires
+finish-below-requires c κs = search needs
 
 same-length : tie.Need-same-length
 same-length c = search needs
@@ -26,21 +37,19 @@ same-length-2 c = search needs
 
 returns : tie.Need-returns
 returns c =
-    let finish-panel = c .before .before .finish-panel in
-    let pre = c .before .before .before .before .before .before .before .before .before .before .before .before .before .pre in
-    let a = c .before .before .before .before .before .before .before .before .before .before .before .before .before .args in
-    panel-factored (a .c) (a .width) (a .rows) (a .s0) (a .g) (a .part .now) _ _ (finish-panel .result) (omega (
-      arith,
-      pre,
-    )) (omega (arith, pre)) (c .before .before .before .before .before .before .before .before .update-panel .ensures) (finish-panel .ensures)
+    let pre = c .before .before .before .before .before .before .before .before .before .before .before .before .before .before .before .before .before .pre in
+    panel-finished (omega (arith, pre))
+    (omega (arith, pre)) (c .before .before .before .before .before .before .before .before .before .before .before .before .update-panel .ensures) (c .before .before .before .before .before .before .finish-triangle .ensures) (c .before .before .finish-below .ensures)
 
 pub factor-panel-spec : {M : Type 1} → statement M
 factor-panel-spec =
     tie.close
     (tie.spec
     update-panel-requires
-    add-finish-panel
-    finish-panel-requires
+    add-finish-triangle
+    finish-triangle-requires
+    add-finish-below
+    finish-below-requires
     same-length
     same-length-2
     returns)

@@ -1,14 +1,26 @@
 -- `blocked_factor::factor_part` meets its contract. Assumes nothing.
-use Prim.Native.Nat.{_≤_}
-use lib.ListN.{length}
-use Rattle.blocked_factor.proofs.BlockParts.{whole-put}
+use Prim.Native.Nat.{_+_, _-_, _≤_}
 use native.Mathlib.Omega.{arith}
-use Rattle.shape.specs.Places.{blockStart}
-use Rattle.shape.proofs.Blocks.{width-le}
-use Rattle.blocked_factor.proofs.BlockParts.{part-length, block-room, block-factored}
+use mathlib.Core.Path.{_∙_}
 use borrow.Author.Needs.{needs}
+use lib.ListN.{length}
+use lib.Ieee.{nan}
+use Rattle.shape.specs.Places.{blockStart, width}
+use Rattle.shape.proofs.Blocks.{width-le}
+use Rattle.kernels.proofs.Parts.{length-part, part-replaced}
+use Rattle.blocked_factor.specs.BlockColumns.{rowStart}
+use Rattle.blocked_factor.proofs.EarlierBlocks.{block-room}
+use Rattle.blocked_factor.proofs.BlockParts.{block-factored}
 use Rattle.blocked_factor.proofs.factor_part.Statement.{statement}
 use Rattle.blocked_factor.proofs.factor_part.Tie as tie
+
+-- the block column lies in the memory
+room :
+    (c : tie.After-update-by-all) →
+    let a = c .before .before .before .before .before .args in
+    let w = width (a .shape .order) (a .shape .block) (a .c) in
+    blockStart (a .shape .order) (a .c) + rowStart w (a .shape .order - a .c) ≤ length (c .update-by-all .last .0)
+room c = omega (arith, block-room (c .before .before .before .before .before .pre), c .update-by-all .ensures .kept)
 
 update-by-all-requires : tie.Need-update-by-all-requires
 update-by-all-requires c κs = search needs
@@ -20,24 +32,13 @@ block-width-requires : tie.Need-block-width-requires
 block-width-requires c κs = search needs
 
 mul-factor-block : tie.Need-mul-factor-block
-mul-factor-block c =
-    let pre = c .before .before .before .before .before .before .before .before .before .before .before .pre in
-    omega (
-      arith,
-      c .before .block-start .ensures,
-      block-room (pre),
-      c .before .before .before .before .before .before .before .before .before .before .before .good,
-    )
+mul-factor-block c = omega (arith, c .before .block-start .ensures, room (c .before .before .before .before .before .before), c .before .before .before .before .before .before .update-by-all .ensures .kept, c .before .before .before .before .before .before .before .before .before .before .before .good)
 
 sub-factor-block : tie.Need-sub-factor-block
-sub-factor-block c =
-    let pre = c .before .before .before .before .before .before .before .before .before .before .before .pre in
-    omega (arith, c .before .block-start .ensures, block-room (pre), c .before .before .before .before .before .before .update-by-all .ensures .kept)
+sub-factor-block c = omega (arith, c .before .block-start .ensures, room (c .before .before .before .before .before .before))
 
 part-factor-block-start : tie.Need-part-factor-block-start
-part-factor-block-start c =
-    let pre = c .before .before .before .before .before .before .before .before .before .before .before .pre in
-    omega (arith, c .before .block-start .ensures, block-room (pre), c .before .before .before .before .before .before .update-by-all .ensures .kept)
+part-factor-block-start c = omega (arith, c .before .block-start .ensures, room (c .before .before .before .before .before .before))
 
 part-factor-block-end : tie.Need-part-factor-block-end
 part-factor-block-end c = search needs
@@ -47,14 +48,15 @@ sub-factor-block-2 c = search needs
 
 factor-block-requires : tie.Need-factor-block-requires
 factor-block-requires c κs =
-    let pre = c .before .before .before .before .before .before .before .before .before .before .before .before .before .before .pre in
-    let update-by-all = c .before .before .before .before .before .before .before .before .before .update-by-all in
-    let a = c .before .before .before .before .before .before .before .before .before .before .before .before .before .before .args in
-    let m = update-by-all .last .0 in
+    let entry = c .before .before .before .before .before .before .before .before .before .before .before .before .before .before in
+    let a = entry .args in
+    let m = c .before .before .before .before .before .before .before .before .before .update-by-all .last .0 in
+    let start = blockStart (a .shape .order) (a .c) in
+    let inside = room (c .before .before .before .before .before .before .before .before .before) in
     rw (c .before .before .before .before .block-start .ensures, c .before .before .before .block-width .ensures) (
       width-le (a .shape .order) (a .shape .block) (a .c),
-      omega (arith, pre .order, pre .inside),
-      omega (arith, part-length m (blockStart (a .shape .order) (a .c)), block-room (pre), update-by-all .ensures .kept),
+      omega (arith, entry .pre .order, entry .pre .inside),
+      omega (arith, length-part nan start (length m - start) m (omega arith)),
     )
 
 same-length : tie.Need-same-length
@@ -65,16 +67,17 @@ same-length-2 c = search needs
 
 returns : tie.Need-returns
 returns c =
-    let factor-block = c .before .before .before .before .factor-block in
-    let update-by-all = c .before .before .before .before .before .before .before .before .before .before .before .before .before .before .update-by-all in
-    let pre = c .before .before .before .before .before .before .before .before .before .before .before .before .before .before .before .before .before .before .before .pre in
-    let block-start = c .before .before .before .before .before .before .before .before .before .block-start in
+    let update = c .before .before .before .before .before .before .before .before .before .before .before .before .before .before .update-by-all in
+    let block = c .before .before .before .before .factor-block in
     let a = c .before .before .before .before .before .before .before .before .before .before .before .before .before .before .before .before .before .before .before .args in
-    let m = update-by-all .last .0 in
-    let room : blockStart (a .shape .order) (a .c) ≤ length m = omega (arith, block-room (pre), update-by-all .ensures .kept) in
-    rw (block-start .ensures, whole-put m (factor-block .last .0) (blockStart (a .shape .order) (a .c)) room)
-    (block-factored (a .m .now) m (factor-block .last .0) (factor-block .result) (pre) (update-by-all .ensures)
-    (rw (block-start .ensures, c .before .before .before .before .before .before .before .before .block-width .ensures) at (factor-block .ensures)))
+    let m = update .last .0 in
+    let start = blockStart (a .shape .order) (a .c) in
+    let inside = room (c .before .before .before .before .before .before .before .before .before .before .before .before .before .before) in
+    let factored = rw (c .before .before .before .before .before .before .before .before .before .block-start .ensures, c .before .before .before .before .before .before .before .before .block-width .ensures) at (block .ensures) in
+    rw (c .before .before .before .before .before .before .before .before .before .block-start .ensures)
+    (block-factored (c .before .before .before .before .before .before .before .before .before .before .before .before .before .before .before .before .before .before .before .pre) (update .ensures) factored
+    (part-replaced nan start (length m - start) m (block .last .0) (omega arith)
+    (factored .kept ∙ length-part nan start (length m - start) m (omega arith))))
 
 pub factor-part-spec : {M : Type 1} → statement M
 factor-part-spec =

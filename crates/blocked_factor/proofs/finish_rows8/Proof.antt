@@ -1,85 +1,65 @@
--- `blocked_factor::proofs::finish_rows8` meets its contract. Assumes nothing.
-use Prim.Native.Nat.{ℕ, _+_}
+-- `blocked_factor::finish_rows8` meets its contract. The loop's invariant: the rows are finished in columns s0 .. s − 1. The measure is what is left of the
+-- columns. Assumes nothing.
+use Prim.Native.Nat.{_+_, _-_, _≤_}
+use native.Mathlib.Nat.{le-refl}
 use native.Mathlib.Omega.{arith}
-use lib.ListN.{getD}
-use Rattle.blocked_factor.proofs.BlockRows.{row-within}
-use Rattle.blocked_factor.proofs.Finishing.{eight-inside, eight-apart, rows-eight}
-use borrow.Author.Needs.{needs}
+use mathlib.Core.Path.{_≡_}
+use Rattle.blocked_factor.specs.BlockStages.{RowsFinished}
+use Rattle.blocked_factor.proofs.Finishing.{rows-none, rows-next}
 use Rattle.blocked_factor.proofs.finish_rows8.Statement.{statement}
 use Rattle.blocked_factor.proofs.finish_rows8.Tie as tie
 
-place-in-block-requires : tie.Need-place-in-block-requires
-place-in-block-requires c κs = search needs
+abbrev Inv-loop : tie.InvT-loop
+Inv-loop part₀ width r s0 end at s₀ part s = (s0 ≤ s) × (s ≤ end) × RowsFinished width s0 s r (r + 8) part₀ part
 
-add-y : tie.Need-add-y
-add-y c =
-    let a = c .before .before .args in
-    let pre = c .before .before .pre .0 in
-    omega (arith, c .place-in-block .ensures, pre, c .before .before .good, row-within (a .width) (a .s) (a .r + 8) (omega (arith, pre)))
+abbrev μ-loop : tie.MeasureT-loop
+μ-loop part₀ width r s0 end at s₀ part s = end - s
 
-sub-count : tie.Need-sub-count
-sub-count c = search needs
+row-places8-requires : tie.Need-row-places8-requires Inv-loop μ-loop
+row-places8-requires c κs = omega (arith, c .before .pre)
 
-quotients8-requires : tie.Need-quotients8-requires
-quotients8-requires c κs =
-    let pre = c .before .before .before .pre .0 in
-    let a = c .before .before .before .args in (
-      omega (arith, c .before .place-in-block .ensures, pre, row-within (a .width) (a .s) (a .r + 8) (omega (arith, pre))),
-      λ k few.
-          omega (
-            arith,
-            pre,
-            eight-inside (a .width) (a .r) (a .s0) (a .s) (λ (q : ℕ). getD (a .at) q 0) (omega (arith, pre)) (omega (arith, pre)) (omega (arith, pre))
-                (c .before .before .before .pre .1) k few,
-          ),
+loop-holds : tie.Need-loop-holds Inv-loop μ-loop
+loop-holds c = (le-refl _, omega (arith, c .before .before .pre), rows-none _ _ _ _ _)
+
+divide-rows8-requires : tie.Need-divide-rows8-requires Inv-loop μ-loop
+divide-rows8-requires c κs = (omega (arith, c .before .before .before .before .before .pre, c .before .loop-test .taken, c .before .before .loop .inv .0, c .before .before .loop .inv .2 .kept), c .before .before .before .row-places8 .ensures)
+
+add-s : tie.Need-add-s Inv-loop μ-loop
+add-s c = omega (arith, c .before .before .before .before .before .before .before .before .pre, c .before .before .before .before .loop-test .taken)
+
+loop-less : tie.Need-loop-less Inv-loop μ-loop
+loop-less c = omega (arith, c .before .before .before .before .loop-test .taken)
+
+loop-again : tie.Need-loop-again Inv-loop μ-loop
+loop-again c =
+    let pre = c .before .before .before .before .before .before .before .before .pre in
+    let l = c .before .before .before .before .before .loop in
+    let taken = c .before .before .before .before .loop-test .taken in (
+      omega (arith, l .inv .0),
+      omega (arith, taken),
+      rows-next (l .inv .0) (omega (arith, pre, taken)) (omega (arith, pre, taken))
+          (l .inv .2) (c .before .before .divide-rows8 .ensures),
     )
 
-scatter8-requires : tie.Need-scatter8-requires
-scatter8-requires c κs =
-    let entry = c .before .before .before .before .before in
-    let pre = entry .pre .0 in
-    let a = entry .args in
-    let at : ℕ → ℕ = λ q. getD (a .at) q 0 in (
-      λ k few.
-          omega (
-            arith,
-            pre,
-            eight-inside (a .width) (a .r) (a .s0) (a .s) at (omega (arith, pre)) (omega (arith, pre)) (omega (arith, pre)) (entry .pre .1) k few,
-          ),
-      eight-apart (a .width) (a .r) (a .s0) (a .s) at (omega (arith, pre)) (omega (arith, pre)) (omega (arith, pre)) (entry .pre .1),
-    )
+same-length : tie.Need-same-length Inv-loop μ-loop
+same-length c = c .before .loop .inv .2 .kept
 
-slice-aggregate-all-finite : tie.Need-slice-aggregate-all-finite
-slice-aggregate-all-finite c = search needs
-
-all-finite-requires : tie.Need-all-finite-requires
-all-finite-requires c κs = search needs
-
-same-length : tie.Need-same-length
-same-length c = search needs
-
-returns : tie.Need-returns
+returns : tie.Need-returns Inv-loop μ-loop
 returns c =
-    let entry = c .before .before .before .before .before .before .before .before .before .before in
-    let pre = entry .pre .0 in
-    let a = entry .args in
-    let quotients8 = c .before .before .before .before .before .before .quotients8 in
-    let place-in-block = c .before .before .before .before .before .before .before .before .place-in-block in
-    rw (c .all-finite .ensures)
-    (rows-eight (a .width) (a .r) (a .s0) (a .s) (λ (q : ℕ). getD (a .at) q 0) (omega (arith, pre)) (omega (arith, pre)) (omega (arith, pre))
-    (entry .pre .1) (a .root) (a .part .now) _ (quotients8 .result) (quotients8 .ensures .0)
-    (rw (place-in-block .ensures) at (quotients8 .ensures .1)) (c .before .before .before .before .scatter8 .ensures))
+    let e : c .before .loop .s ≡ c .before .before .before .before .args .end = omega (arith, c .loop-test .left, c .before .loop .inv .1) in
+    rw e at (c .before .loop .inv .2)
 
 pub finish-rows8-spec : {M : Type 1} → statement M
 finish-rows8-spec =
     tie.close
     (tie.spec
-    place-in-block-requires
-    add-y
-    sub-count
-    quotients8-requires
-    scatter8-requires
-    slice-aggregate-all-finite
-    all-finite-requires
+    Inv-loop
+    μ-loop
+    row-places8-requires
+    loop-holds
+    divide-rows8-requires
+    add-s
+    loop-less
+    loop-again
     same-length
     returns)

@@ -22,13 +22,10 @@ place-in-block-requires : tie.Need-place-in-block-requires Inv-loop μ-loop
 place-in-block-requires c κs = omega (arith, c .pre)
 
 add-at : tie.Need-add-at Inv-loop μ-loop
-add-at c = omega (
-  arith,
-  c .before .pre,
-  c .place-in-block .ensures,
-  row-le-triangle (c .before .args .width) (c .before .args .r),
-  triangle-le (c .before .args .r) (omega (arith, c .before .pre)),
-)
+add-at c =
+    let a = c .before .args in
+    let pre = c .before .pre in
+    omega (arith, pre, c .place-in-block .ensures, row-le-triangle (a .width) (a .r), triangle-le (a .r) (omega (arith, pre)))
 
 loop-holds : tie.Need-loop-holds Inv-loop μ-loop
 loop-holds c =
@@ -54,14 +51,9 @@ add-at-2 : tie.Need-add-at-2 Inv-loop μ-loop
 add-at-2 c =
     let a = c .before .before .before .before .args in
     let pre = c .before .before .before .before .pre in
-    omega (
-      arith,
-      pre,
-      c .least .ensures,
-      c .before .before .loop .inv .1,
-      row-le-triangle (a .width) (a .r + c .before .before .loop .k),
-      triangle-le (a .r + c .before .before .loop .k) (omega (arith, pre)),
-    )
+    let l = c .before .before .loop in
+    let r = a .r + l .k in
+    omega (arith, pre, c .least .ensures, l .inv .1, row-le-triangle (a .width) r, triangle-le r (omega (arith, pre)))
 
 loop-less : tie.Need-loop-less Inv-loop μ-loop
 loop-less c = omega arith

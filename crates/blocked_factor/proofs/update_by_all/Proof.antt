@@ -72,7 +72,7 @@ loop-again c =
       next-le (pre) (l .k) (l .inv .1) (loop-test .taken),
       block-of-next (a .shape .block) (l .k) (pre .block) (l .inv .1),
       (update-block .kept .1 .0 ∙ l .inv .2),
-      earlier-next (pre) (l .k) (l .inv .1) (loop-test .taken) (a .m .now) (l .m) _ refl (l .inv .3)
+      earlier-next (pre) (l .k) (l .inv .1) (loop-test .taken) (l .inv .3)
           (rw (c .before .before .before .before .before .before .before .before .before .before .before .block-start .ensures, c .before .before .before .before .before .before .before .before .before .before .block-width .ensures, c .before .before .before .before .before .before .before .block-start2 .ensures) at (update-block .ensures)),
     )
 

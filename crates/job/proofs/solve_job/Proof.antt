@@ -1,8 +1,9 @@
--- `job::solve_job` meets its contract. A refusal of 7 or 8 is the job's result; else it is the pipeline's, with work memory lent from an array of zeros. Assumes nothing.
+-- `job::solve_job` meets its contract. A refusal of 7 or 8 is the job's result; else it is the pipeline's, with work memory lent from an array of zeros.
+-- Assumes nothing.
 use Prim.Native.Nat.{_≤_}
+use native.Mathlib.Omega.{arith}
 use lib.Ieee.{binary64, ofBits}
 use Rattle.job.proofs.Listings.{length-zeros, ended-as, refused-by-7, refused-by-8, job-ran, work-small}
-use native.Mathlib.Omega.{arith}
 use borrow.Author.Needs.{needs}
 use Rattle.job.proofs.solve_job.Statement.{statement}
 use Rattle.job.proofs.solve_job.Tie as tie
@@ -10,14 +11,20 @@ use Rattle.job.proofs.solve_job.Tie as tie
 check-finite-requires : tie.Need-check-finite-requires
 check-finite-requires c κs = search needs
 
+result-requires : tie.Need-result-requires
+result-requires c κs = search needs
+
 same-length : tie.Need-same-length
 same-length c = search needs
 
 returns : tie.Need-returns
-returns c = refused-by-7 _ _ _ _ (c .if1 .taken) (c .before .before .check-finite .ensures)
+returns c = rw (c .result .ensures) (refused-by-7 _ _ _ _ (c .before .if1 .taken) (c .before .before .before .check-finite .ensures))
 
 check-finite-requires-2 : tie.Need-check-finite-requires-2
 check-finite-requires-2 c κs = search needs
+
+result-requires-2 : tie.Need-result-requires-2
+result-requires-2 c κs = search needs
 
 same-length-2 : tie.Need-same-length-2
 same-length-2 c = search needs
@@ -27,9 +34,8 @@ same-length-3 c = search needs
 
 returns-2 : tie.Need-returns-2
 returns-2 c =
-    let check-finite = c .before .before .before .before .before .before .check-finite in
-    refused-by-8 _ _ _ _ (c .if2 .taken) (check-finite .result) (check-finite .ensures) (c .before .before .before .before .if1 .left)
-    (c .before .before .check-finite2 .ensures)
+    rw (c .result2 .ensures)
+    (refused-by-8 _ _ _ _ (c .before .if2 .taken) (c .before .before .before .before .before .before .before .check-finite .result) (c .before .before .before .before .before .before .before .check-finite .ensures) (c .before .before .before .before .before .if1 .left) (c .before .before .before .check-finite2 .ensures))
 
 new-requires : tie.Need-new-requires
 new-requires c κs = search needs
@@ -45,8 +51,7 @@ array-borrow-prefix-work : tie.Need-array-borrow-prefix-work
 array-borrow-prefix-work c = work-fits (c .before .before)
 
 slice-aggregate-blocked-pipeline : tie.Need-slice-aggregate-blocked-pipeline
-slice-aggregate-blocked-pipeline c =
-    length-zeros 4096 (c .before .before .before .block-work .result) (ofBits binary64 0) (work-fits (c .before .before .before))
+slice-aggregate-blocked-pipeline c = length-zeros 4096 (c .before .before .before .block-work .result) (ofBits binary64 0) (work-fits (c .before .before .before))
 
 blocked-pipeline-requires : tie.Need-blocked-pipeline-requires
 blocked-pipeline-requires c κs = search needs
@@ -62,16 +67,14 @@ returns-3 c =
     let ended = c .before .before .before .before .before .before .blocked-pipeline in
     let block-work = c .before .before .before .before .before .before .before .before .before .before .block-work in
     let new = c .before .before .before .before .before .before .before .before .before .before .before .new in
-    let second = c .before .before .before .before .before .before .before .before .before .before .before .before in
-    let first = c .before .before .before .before .before .before .before .before .before .before .before .before .before .before .before .before in
-    job-ran _ (first .before .before .check-finite .result) (second .before .before .check-finite2 .result)
+    job-ran _ (c .before .before .before .before .before .before .before .before .before .before .before .before .before .before .before .before .before .before .check-finite .result) (c .before .before .before .before .before .before .before .before .before .before .before .before .before .before .check-finite2 .result)
     (record {
       factorResult = ended .result .factor;
       solverResult = ended .result .solver;
       matrix = ended .last .1 .1 .0;
       rhs = ended .last .1 .1 .1 .0;
       work = ended .last .1 .1 .1 .1 .0;
-    }) (first .before .before .check-finite .ensures) (first .if1 .left) (second .before .before .check-finite2 .ensures) (second .if2 .left)
+    }) (c .before .before .before .before .before .before .before .before .before .before .before .before .before .before .before .before .before .before .check-finite .ensures) (c .before .before .before .before .before .before .before .before .before .before .before .before .before .before .before .before .if1 .left) (c .before .before .before .before .before .before .before .before .before .before .before .before .before .before .check-finite2 .ensures) (c .before .before .before .before .before .before .before .before .before .before .before .before .if2 .left)
     (ended-as _ (new .result .order) (new .result .block) (block-work .result) _ (new .ensures .0) (new .ensures .1) (block-work .ensures)
     (work-fits (c .before .before .before .before .before .before .before .before .before .before)) (ended .ensures))
 
@@ -80,9 +83,11 @@ solve-job-spec =
     tie.close
     (tie.spec
     check-finite-requires
+    result-requires
     same-length
     returns
     check-finite-requires-2
+    result-requires-2
     same-length-2
     same-length-3
     returns-2

@@ -16,16 +16,20 @@ check-factor-requires c κs = search needs
 accepted-requires : tie.Need-accepted-requires
 accepted-requires c κs = search needs
 
+result-requires : tie.Need-result-requires
+result-requires c κs = search needs
+
 same-length : tie.Need-same-length
 same-length c = search needs
 
 returns : tie.Need-returns
 returns c =
-    let a = c .before .before .before .before .before .before .args in
-    let check-factor = c .before .before .check-factor in
-    let accepted = c .before .accepted in
-    factor-refused Packed (a .shape .order) (a .shape .block) (a .matrix .now) (a .work .now) (check-factor .result) (check-factor .ensures)
-    (refused-of (accepted .result) (check-factor .result) (accepted .ensures) (c .if1 .taken))
+    let a = c .before .before .before .before .before .before .before .args in
+    let check-factor = c .before .before .before .check-factor in
+    let accepted = c .before .before .accepted in
+    rw (c .result .ensures)
+    (factor-refused Packed (a .shape .order) (a .shape .block) (a .matrix .now) (a .work .now) (check-factor .result) (check-factor .ensures)
+    (refused-of (accepted .result) (check-factor .result) (accepted .ensures) (c .before .if1 .taken)))
 
 passed : (c : tie.Else1)
     → let a = c .before .before .before .before .before .before .args in
@@ -48,6 +52,9 @@ factor-cleared-requires c κs =
     let sizes = passed (c .before .before) .sizes in
     (sizes .order, sizes .matrix, length-take-le _ _ (sizes .work))
 
+result-requires-2 : tie.Need-result-requires-2
+result-requires-2 c κs = search needs
+
 same-length-2 : tie.Need-same-length-2
 same-length-2 c = search needs
 
@@ -56,12 +63,12 @@ same-length-3 c = search needs
 
 returns-2 : tie.Need-returns-2
 returns-2 c =
-    let factor-cleared = c .before .before .before .before .factor-cleared in
-    let a = c .before .before .before .before .before .before .before .before .before .before .before .before .before .args in
-    let check-factor = c .before .before .before .before .before .before .before .before .before .check-factor in
-    let accepted = c .before .before .before .before .before .before .before .before .accepted in
-    let if1 = c .before .before .before .before .before .before .before .if1 in
-    rw (factor-cleared .ensures .1)
+    let factor-cleared = c .before .before .before .before .before .factor-cleared in
+    let a = c .before .before .before .before .before .before .before .before .before .before .before .before .before .before .args in
+    let check-factor = c .before .before .before .before .before .before .before .before .before .before .check-factor in
+    let accepted = c .before .before .before .before .before .before .before .before .before .accepted in
+    let if1 = c .before .before .before .before .before .before .before .before .if1 in
+    rw (c .result2 .ensures, factor-cleared .ensures .1)
     (columns-done (a .shape .order) (a .shape .block) (a .matrix .now) (a .work .now) (factor-cleared .result) (check-factor .result)
     (factor-cleared .last .0) (check-factor .ensures)
     (accepted-of (accepted .result) (check-factor .result) (accepted .ensures) (if1 .left)) (factor-cleared .ensures .0))
@@ -72,11 +79,13 @@ factor-spec =
     (tie.spec
     check-factor-requires
     accepted-requires
+    result-requires
     same-length
     returns
     slice-relend-prefix-factor-cleared
     slice-aggregate-factor-cleared
     factor-cleared-requires
+    result-requires-2
     same-length-2
     same-length-3
     returns-2)

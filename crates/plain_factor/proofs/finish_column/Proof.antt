@@ -1,7 +1,15 @@
--- `plain_factor::finish_column` meets its contract. Assumes nothing.
-use mathlib.Core.Path.{refl, sym, _∙_}
-use borrow.Author.Tests.{not-true, not-false}
-use Rattle.plain_factor.proofs.Verdicts.{pivot-refused, rows-refused, column-accepted}
+-- `plain_factor::finish_column` meets its contract: its verdict is that of the column's rules, and the matrix changes where it is accepted. Assumes
+-- nothing.
+use mathlib.Core.Path.{_≡_, refl, sym, _∙_}
+use mathlib.Core.Bool.{cond}
+use mathlib.Core.List.{List}
+use lib.ListN.{drop}
+use lib.Ieee.{Float}
+use Rattle.shape.specs.Places.{packedPlace}
+use Rattle.calls.specs.Triangles.{storeColumn}
+use Rattle.calls.specs.Refusals.{accepted}
+use Rattle.plain_factor.specs.Steps.{Judged}
+use Rattle.plain_factor.proofs.Verdicts.{pivot-refused, column-judged}
 use borrow.Author.Needs.{needs}
 use Rattle.plain_factor.proofs.finish_column.Statement.{statement}
 use Rattle.plain_factor.proofs.finish_column.Tie as tie
@@ -15,71 +23,72 @@ slice-read-judge c = search needs
 judge-requires : tie.Need-judge-requires
 judge-requires c κs = search needs
 
-enum-known-value : tie.Need-enum-known-value
-enum-known-value c = search needs
+enum-told : tie.Need-enum-told
+enum-told c = search needs
 
-enum-known-diagonal : tie.Need-enum-known-diagonal
-enum-known-diagonal c = search needs
+judge-column-requires : tie.Need-judge-column-requires
+judge-column-requires c κs = search needs
+
+returns : tie.Need-returns
+returns c =
+    let judge = c .before .before .before in
+    let a = judge .before .before .before .before .args in
+    let pre = judge .before .before .before .before .pre in (
+      pivot-refused (a .n) (a .j) (a .matrix .now) (a .work .now) (pre .0) (pre .1 .0) (pre .1 .1) (judge .judge .ensures)
+          (c .before .enum-told .given .1) (c .judge-column .ensures),
+      λ p low h. refl,
+    )
+
+enum-known-pivot : tie.Need-enum-known-pivot
+enum-known-pivot c = search needs
 
 divide-rows-requires : tie.Need-divide-rows-requires
 divide-rows-requires c κs = search needs
 
-refusal-requires : tie.Need-refusal-requires
-refusal-requires c κs = search needs
+judge-column-requires-2 : tie.Need-judge-column-requires-2
+judge-column-requires-2 c κs = search needs
 
-same-length : tie.Need-same-length
-same-length c = search needs
-
-returns : tie.Need-returns
-returns c =
-    let pivot = c .before .before .before .before .before .before .before .before .before in
-    let a = pivot .before .before .before .before .args in
-    let pre = pivot .before .before .before .before .pre in
-    let root = c .before .before .before .before .before .before .before .diagonal .given in
-    let divided = c .before .before .before .before .divide-rows in
-    rw (c .refusal .ensures) (
-      rows-refused (a .n) (a .j) (a .matrix .now) (a .work .now) (pre .0) (pre .1 .0) (pre .1 .1) (root .0 .0) (divided .last .0) (divided .result)
-          (sym (pivot .judge .ensures) ∙ root .1) (divided .kept .0 ∙ pre .1 .0) (divided .ensures) (not-true _ (c .before .if1 .taken)),
-      divided .ensures .before,
-    )
+accepted-requires : tie.Need-accepted-requires
+accepted-requires c κs = search needs
 
 store-column-requires : tie.Need-store-column-requires
 store-column-requires c κs = search needs
 
-refusal-requires-2 : tie.Need-refusal-requires-2
-refusal-requires-2 c κs = search needs
+-- with a pivot that passes, m being the matrix that is left
+judged : {m : List Float} (c : tie.After-judge-column2)
+    → let a = c .before .before .before .before .before .before .before .before .before .before .before .before .args in
+    let written = storeColumn (packedPlace (a .n)) (a .j) (drop (a .j) (c .before .before .before .divide-rows .last .0)) (a .matrix .now) in
+    m ≡ cond (accepted (c .judge-column2 .result)) written (a .matrix .now)
+    → Judged (a .n) (a .j) (a .matrix .now) (c .judge-column2 .result) m
+judged c stored =
+    let judge = c .before .before .before .before .before .before .before .before in
+    let a = judge .before .before .before .before .args in
+    let pre = judge .before .before .before .before .pre in
+    let root = c .before .before .before .before .before .before .pivot .given in
+    let divided = c .before .before .before .divide-rows in
+    column-judged (a .n) (a .j) (a .matrix .now) (a .work .now) (pre .0) (pre .1 .0) (pre .1 .1) (root .0 .0) (divided .last .0) (divided .result)
+    (sym (root .1) ∙ judge .judge .ensures) (divided .kept .0 ∙ pre .1 .0) (divided .ensures) (c .judge-column2 .ensures) stored
 
-returns-2 : tie.Need-returns-2
-returns-2 c =
-    let pivot = c .before .before .before in
-    let a = pivot .before .before .before .before .args in
-    let pre = pivot .before .before .before .before .pre in
-    let refused = c .before .value .given in (
-      pivot-refused (a .n) (a .j) (a .matrix .now) (a .work .now) (pre .0) (pre .1 .0) (pre .1 .1) (refused .0 .0)
-          (sym (pivot .judge .ensures) ∙ refused .1),
-      λ p low h. refl,
-    )
+same-length : tie.Need-same-length
+same-length c = search needs
 
 same-length-2 : tie.Need-same-length-2
 same-length-2 c = search needs
+
+returns-2 : tie.Need-returns-2
+returns-2 c =
+    let verdict = c .before .before .before .before .before .before .before in
+    let yes = sym (c .before .before .before .before .before .before .accepted .ensures) ∙ c .before .before .before .before .before .if1 .taken in
+    (judged verdict (rw yes (c .before .before .store-column .ensures)), verdict .before .before .before .divide-rows .ensures .before)
 
 same-length-3 : tie.Need-same-length-3
 same-length-3 c = search needs
 
 returns-3 : tie.Need-returns-3
 returns-3 c =
-    let stored = c .before .before .before .store-column in
-    let divided = c .before .before .before .before .before .before .before .before .before .divide-rows in
-    let pivot = c .before .before .before .before .before .before .before .before .before .before .before .before .before .before in
-    let a = pivot .before .before .before .before .args in
-    let pre = pivot .before .before .before .before .pre in
-    let root = c .before .before .before .before .before .before .before .before .before .before .before .before .diagonal .given in
-    rw (c .refusal2 .ensures) (
-      column-accepted (a .n) (a .j) (a .matrix .now) (a .work .now) (pre .0) (pre .1 .0) (pre .1 .1) (root .0 .0) (divided .last .0) (divided .result)
-          (sym (pivot .judge .ensures) ∙ root .1) (divided .kept .0 ∙ pre .1 .0) (divided .ensures) (stored .last .0)
-          (not-false _ (c .before .before .before .before .before .before .if1 .left)) (stored .ensures),
-      divided .ensures .before,
-    )
+    let verdict = c .before .before in
+    let no = sym (c .before .accepted .ensures) ∙ c .if1 .left in
+    (judged verdict (rw no), verdict .before .before .before .divide-rows .ensures .before)
 
 pub finish-column-spec : {M : Type 1} → statement M
 finish-column-spec =
@@ -88,15 +97,16 @@ finish-column-spec =
     mul-judge
     slice-read-judge
     judge-requires
-    enum-known-value
-    enum-known-diagonal
+    enum-told
+    judge-column-requires
+    enum-known-pivot
     divide-rows-requires
-    refusal-requires
-    same-length
-    returns
+    judge-column-requires-2
+    accepted-requires
     store-column-requires
-    refusal-requires-2
-    returns-2
+    returns
+    same-length
     same-length-2
+    returns-2
     same-length-3
     returns-3)

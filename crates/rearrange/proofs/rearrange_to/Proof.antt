@@ -21,12 +21,16 @@ check-rearranger-requires c κs = search needs
 accepted-requires : tie.Need-accepted-requires
 accepted-requires c κs = search needs
 
+result-requires : tie.Need-result-requires
+result-requires c κs = search needs
+
 returns : tie.Need-returns
 returns c =
-    let args = c .before .before .before .before .before .args in
-    let r = c .before .before .check-rearranger .result in
-    refused-done (args .shape .order) (args .shape .block) (args .matrix .now) (args .work .now) r (c .before .before .check-rearranger .ensures)
-    (other (args .to)) (args .to) (refused-of _ r (c .before .accepted .ensures) (c .if1 .taken))
+    let args = c .before .before .before .before .before .before .args in
+    let checks = c .before .before .before .check-rearranger in
+    rw (c .result .ensures)
+    (refused-done (args .shape .order) (args .shape .block) (args .matrix .now) (args .work .now) (checks .result) (checks .ensures)
+    (other (args .to)) (args .to) (refused-of _ (checks .result) (c .before .before .accepted .ensures) (c .before .if1 .taken)))
 
 -- past the checks
 passed : (c : tie.Else1) → accepted (c .before .before .check-rearranger .result) ≡ true
@@ -59,6 +63,9 @@ move-and-clear-requires c κs =
     let lent = length-take-le (c .before .before .block-work .result) (args .work .now) (fits (c .before .before)) in
     ((known .order, known .blockLow tt, known .blockHigh tt), (known .matrix, omega (arith, c .before .before .block-work .ensures, lent)))
 
+result-requires-2 : tie.Need-result-requires-2
+result-requires-2 c κs = search needs
+
 same-length : tie.Need-same-length
 same-length c = search needs
 
@@ -67,14 +74,15 @@ same-length-2 c = search needs
 
 returns-2 : tie.Need-returns-2
 returns-2 c =
-    let work = c .before .before .before .before .before .before .before in
+    let work = c .before .before .before .before .before .before .before .before in
     let start = work .before .before .before .before .before .before in
     let args = start .args in
     let checks = work .before .before .before .check-rearranger in
-    let done = c .before .before .before .before .move-and-clear in
-    accepted-done (args .shape .order) (args .shape .block) (args .matrix .now) (args .work .now) (checks .result) (checks .ensures)
+    let done = c .before .before .before .before .before .move-and-clear in
+    rw (c .result2 .ensures)
+    (accepted-done (args .shape .order) (args .shape .block) (args .matrix .now) (args .work .now) (checks .result) (checks .ensures)
     (other (args .to)) (args .to) (passed (work .before)) (done .ensures .0)
-    (cleared _ (work .block-work .result) (args .work .now) _ (work .block-work .ensures) (fits work) (done .ensures .1))
+    (cleared _ (work .block-work .result) (args .work .now) _ (work .block-work .ensures) (fits work) (done .ensures .1)))
 
 pub rearrange-to-spec : {M : Type 1} → statement M
 rearrange-to-spec =
@@ -82,11 +90,13 @@ rearrange-to-spec =
     (tie.spec
     check-rearranger-requires
     accepted-requires
+    result-requires
     returns
     block-work-requires
     slice-relend-prefix-move-and-clear
     slice-aggregate-move-and-clear
     move-and-clear-requires
+    result-requires-2
     same-length
     same-length-2
     returns-2)

@@ -4,7 +4,7 @@ use native.Mathlib.Omega.{arith}
 use mathlib.Core.Path.{_≡_, refl}
 use lib.ListN.{length}
 use Rattle.blocked_factor.specs.BlockColumns.{Packed}
-use Rattle.blocked_factor.proofs.Packing.{packed-none, packed-next}
+use Rattle.blocked_factor.proofs.Panels.{packed-none, packed-next}
 use Rattle.blocked_factor.proofs.update.pack.Statement.{statement}
 use Rattle.blocked_factor.proofs.update.pack.Tie as tie
 
@@ -42,15 +42,14 @@ loop-less c = omega arith
 
 loop-again : tie.Need-loop-again Inv-loop μ-loop
 loop-again c =
-    let pre = c .before .before .before .before .before .before .before .before .before .pre in
-    let a = c .before .before .before .before .before .before .before .before .before .args in
-    let l = c .before .before .before .before .before .before .loop in (
+    let entry = c .before .before .before .before .before .before .before .before .before in
+    let a = entry .args in
+    let l = c .before .before .before .before .before .before .loop in
+    let lane = c .before .before .pack-lane .ensures in (
       omega arith,
-      omega (arith, c .before .before .pack-lane .ensures .kept),
-      packed-next (l .panel) _ (a .m .now) (a .source .start) (a .source .width) (a .first) (a .count) (l .t) (l .inv .2) (omega (
-        arith,
-        pre .0,
-      )) (rw (c .before .before .before .before .place-in-block .ensures) at (c .before .before .pack-lane .ensures)),
+      omega (arith, lane .size),
+      packed-next (l .panel) _ (a .m .now) (a .source .start) (a .source .width) (a .first) (a .count) (l .t) (l .inv .2)
+          (omega (arith, entry .pre .0)) (rw (c .before .before .before .before .place-in-block .ensures) at lane),
     )
 
 same-length : tie.Need-same-length Inv-loop μ-loop

@@ -1,11 +1,11 @@
 -- `blocked_factor::update::update_block` meets its contract. Assumes nothing.
 use Prim.Native.Nat.{_+_, _-_, _≤_}
 use native.Mathlib.Omega.{arith}
-use mathlib.Core.Path.{_≡_, refl}
+use mathlib.Core.Path.{_≡_, refl, _∙_}
 use borrow.Author.Needs.{needs}
 use lib.ListN.{length}
 use Rattle.blocked_factor.specs.BlockColumns.{sourceAt, PanelUpdated}
-use Rattle.blocked_factor.proofs.Panels.{source-part, columns-none, columns-next}
+use Rattle.blocked_factor.proofs.Panels.{source-part, panel-none, columns-next}
 use Rattle.blocked_factor.proofs.update.update_block.Statement.{statement}
 use Rattle.blocked_factor.proofs.update.update_block.Tie as tie
 
@@ -17,7 +17,7 @@ abbrev μ-loop : tie.MeasureT-loop
 μ-loop m₀ spare₀ target source count width s0₀ m spare s0 = width - s0
 
 loop-holds : tie.Need-loop-holds Inv-loop μ-loop
-loop-holds c = (omega arith, refl, columns-none _ _ _ _ _ _)
+loop-holds c = (omega arith, refl, panel-none (λ r s e. omega (arith, e .right)))
 
 sub-least : tie.Need-sub-least Inv-loop μ-loop
 sub-least c = omega (arith, c .loop-test .taken)
@@ -25,54 +25,28 @@ sub-least c = omega (arith, c .loop-test .taken)
 least-requires : tie.Need-least-requires Inv-loop μ-loop
 least-requires c κs = search needs
 
+-- the panel's columns are the target's
+wide : (c : tie.After-least Inv-loop μ-loop) → c .before .before .loop .s0 + c .least .result ≤ c .before .before .before .before .before .args .target .width
+wide c = omega (arith, c .least .ensures, c .before .loop-test .taken)
+
 update-panel-requires : tie.Need-update-panel-requires Inv-loop μ-loop
 update-panel-requires c κs =
     let l = c .before .before .before .before .loop in
-    let pre = c .before .before .before .before .before .before .before .pre in
-    let g = c .before .before .least .result in (
-      rw (l .inv .2 .kept) (source-part (l .s0) g (pre) (omega (
-        arith,
-        c .before .before .least .ensures,
-        c .before .before .before .loop-test .taken,
-      ))),
-      omega (arith, c .before .before .least .ensures),
-    )
+    let g = c .before .before .least in
+    (rw (l .inv .2 .kept) (source-part (l .s0) (g .result) (c .before .before .before .before .before .before .before .pre) (wide (c .before .before))), omega (arith, g .ensures))
 
 add-s0 : tie.Need-add-s0 Inv-loop μ-loop
-add-s0 c =
-    let pre = c .before .before .before .before .before .before .before .before .before .before .before .before .pre in
-    omega (
-      arith,
-      c .before .before .before .before .before .before .before .least .ensures,
-      c .before .before .before .before .before .before .before .before .loop-test .taken,
-      pre .tall,
-      pre .below,
-      pre .order,
-    )
+add-s0 c = omega (arith, wide (c .before .before .before .before .before .before .before), c .before .before .before .before .before .before .before .before .before .before .before .before .pre)
 
 loop-less : tie.Need-loop-less Inv-loop μ-loop
-loop-less c = omega (
-  arith,
-  c .before .before .before .before .before .before .before .least .ensures,
-  c .before .before .before .before .before .before .before .before .loop-test .taken,
-)
+loop-less c = omega (arith, c .before .before .before .before .before .before .before .least .ensures, c .before .before .before .before .before .before .before .before .loop-test .taken)
 
 loop-again : tie.Need-loop-again Inv-loop μ-loop
 loop-again c =
-    let least = c .before .before .before .before .before .before .before .least in
-    let update-panel = c .before .before .before .before .update-panel in
-    let pre = c .before .before .before .before .before .before .before .before .before .before .before .before .pre in
-    let a = c .before .before .before .before .before .before .before .before .before .before .before .before .args in
     let l = c .before .before .before .before .before .before .before .before .before .loop in
-    let fit : l .s0 + least .result ≤ a .target .width = omega (
-      arith,
-      least .ensures,
-      c .before .before .before .before .before .before .before .before .loop-test .taken,
-    ) in (
-      fit,
-      omega (arith, l .inv .1, update-panel .kept .1 .0),
-      columns-next (a .m .now) (l .m) _ (pre) (l .s0) (least .result) fit (l .inv .2) (update-panel .ensures),
-    )
+    let panel = c .before .before .before .before .update-panel in
+    let fit = wide (c .before .before .before .before .before .before .before) in
+    (fit, panel .kept .1 .0 ∙ l .inv .1, columns-next (c .before .before .before .before .before .before .before .before .before .before .before .before .pre) fit (l .inv .2) (panel .ensures))
 
 same-length : tie.Need-same-length Inv-loop μ-loop
 same-length c = c .before .loop .inv .2 .kept

@@ -5,9 +5,9 @@ use mathlib.Core.Path.{_≡_}
 use lib.ListN.{getD}
 use lib.Ieee.{nan}
 use Rattle.calls.specs.Arithmetic.{minusProducts}
-use Rattle.blocked_factor.specs.BlockColumns.{rowStart, rowAt}
+use Rattle.blocked_factor.specs.BlockColumns.{rowStart}
 use Rattle.blocked_factor.proofs.Panels.{entries-next}
-use Rattle.kernels.specs.Kernels.{Filled}
+use Rattle.kernels.specs.Kernels.{Filled, rowAt}
 use Rattle.kernels.proofs.Parts.{filled-none}
 use Rattle.blocked_factor.proofs.update.update_entries.Statement.{statement}
 use Rattle.blocked_factor.proofs.update.update_entries.Tie as tie

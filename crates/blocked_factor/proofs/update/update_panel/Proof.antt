@@ -22,20 +22,8 @@ pack-requires c κs =
 update-rows-requires : tie.Need-update-rows-requires
 update-rows-requires c κs =
     let pre = c .before .before .before .before .before .before .before .before .before .before .before .before .pre in
-    let pack = c .before .before .before .before .pack in (
-      pre .0,
-      (
-        pre .1,
-        (λ always. (
-          omega (
-            arith,
-            c .before .before .before .before .before .before .before .before .before .if1 .taken,
-            pack .kept .0,
-          ),
-          pack .ensures,
-        )),
-      ),
-    )
+    let pack = c .before .before .before .before .pack in
+    (pre .0, (pre .1, (λ always. (omega (arith, c .before .before .before .before .before .before .before .before .before .if1 .taken, pack .kept .0), pack .ensures))))
 
 update-rows-requires-2 : tie.Need-update-rows-requires-2
 update-rows-requires-2 c κs =

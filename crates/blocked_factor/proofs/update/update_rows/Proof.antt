@@ -5,8 +5,7 @@ use native.Mathlib.Nat.{le-refl}
 use native.Mathlib.Omega.{arith}
 use mathlib.Core.Path.{_≡_, ap}
 use Rattle.blocked_factor.specs.BlockColumns.{rowStart, sourceAt, PanelUpdated}
-use Rattle.blocked_factor.proofs.BlockRows.{row-next, row-mono}
-use Rattle.blocked_factor.proofs.Panels.{panel-none, panel-next, row-ready}
+use Rattle.blocked_factor.proofs.Panels.{first-fits, next-fits, panel-none, panel-next, row-ready}
 use Rattle.blocked_factor.proofs.update.update_rows.Statement.{statement}
 use Rattle.blocked_factor.proofs.update.update_rows.Tie as tie
 
@@ -22,86 +21,38 @@ abbrev μ-loop : tie.MeasureT-loop
 μ-loop m₀ panel packed target source s0 g count above first x₀ y₀ r₀ m x y r = target .rows - r
 
 sub-above : tie.Need-sub-above Inv-loop μ-loop
-sub-above c = omega (arith, c .before .before .before .before .pre .0 .below)
+sub-above c = omega (arith, first-fits (c .before .before .before .before .pre .0))
 
 add-first : tie.Need-add-first Inv-loop μ-loop
-add-first c =
-    let pre = c .before .before .before .before .pre in
-    omega (arith, pre .0 .below, pre .0 .order, pre .0 .wide, pre .0 .tall)
+add-first c = omega (arith, first-fits (c .before .before .before .before .pre .0))
 
 place-in-block-requires : tie.Need-place-in-block-requires Inv-loop μ-loop
-place-in-block-requires c κs =
-    let pre = c .before .before .before .before .pre in
-    omega (arith, pre .0 .below, pre .0 .order, pre .0 .wide, pre .0 .tall)
+place-in-block-requires c κs = omega (arith, first-fits (c .before .before .before .before .pre .0))
 
 add-x : tie.Need-add-x Inv-loop μ-loop
-add-x c =
-    let pre = c .before .before .before .before .before .before .pre in
-    let a = c .before .before .before .before .before .before .args in
-    omega (
-      arith,
-      c .before .place-in-block .ensures,
-      pre .0 .rows,
-      pre .0 .wide,
-      pre .0 .tall,
-      pre .0 .below,
-      c .before .before .before .before .before .before .good,
-      row-mono (a .source .width) (a .source .rows - a .target .rows + a .s0) (a .source .rows) (omega (
-        arith,
-        pre .0 .wide,
-        pre .0 .tall,
-        pre .0 .below,
-      )),
-    )
+add-x c = omega (arith, c .before .place-in-block .ensures, first-fits (c .before .before .before .before .before .before .pre .0), c .before .before .before .before .before .before .good)
 
 place-in-block-requires-2 : tie.Need-place-in-block-requires-2 Inv-loop μ-loop
-place-in-block-requires-2 c κs =
-    let pre = c .before .before .before .before .before .before .pre in
-    omega (arith, pre .0 .below, pre .0 .order, pre .0 .wide, pre .0 .tall)
+place-in-block-requires-2 c κs = omega (arith, first-fits (c .before .before .before .before .before .before .pre .0))
 
 add-y : tie.Need-add-y Inv-loop μ-loop
-add-y c =
-    let pre = c .before .before .before .before .before .before .before .before .pre in
-    let a = c .before .before .before .before .before .before .before .before .args in
-    omega (
-      arith,
-      c .before .place-in-block2 .ensures,
-      pre .0 .room,
-      c .before .before .before .before .before .before .before .before .good,
-      row-mono (a .target .width) (a .s0) (a .target .rows) (omega (arith, pre .0 .wide, pre .0 .tall)),
-    )
+add-y c = omega (arith, c .before .place-in-block2 .ensures, first-fits (c .before .before .before .before .before .before .before .before .pre .0), c .before .before .before .before .before .before .before .before .good)
 
 add-y-2 : tie.Need-add-y-2 Inv-loop μ-loop
-add-y-2 c =
-    let pre = c .before .before .before .before .before .before .before .before .pre in
-    let a = c .before .before .before .before .before .before .before .before .args in
-    omega (
-      arith,
-      c .before .place-in-block2 .ensures,
-      pre .0 .room,
-      pre .0 .wide,
-      pre .0 .tall,
-      pre .0 .below,
-      pre .0 .order,
-      c .before .before .before .before .before .before .before .before .good,
-      row-mono (a .target .width) (a .s0) (a .target .rows) (omega (arith, pre .0 .wide, pre .0 .tall)),
-    )
+add-y-2 c = omega (arith, c .before .place-in-block2 .ensures, first-fits (c .before .before .before .before .before .before .before .before .pre .0), c .before .before .before .before .before .before .before .before .good)
 
 loop-holds : tie.Need-loop-holds Inv-loop μ-loop
 loop-holds c =
-    let a = c .before .before .before .before .before .before .before .before .args in
-    let pre = c .before .before .before .before .before .before .before .before .pre in (
+    let a = c .before .before .before .before .before .before .before .before .args in (
       le-refl _,
-      omega (arith, pre .0 .wide, pre .0 .tall),
+      omega (arith, first-fits (c .before .before .before .before .before .before .before .before .pre .0)),
       ap (λ (z : ℕ). a .source .start + z) (c .before .before .before .place-in-block .ensures),
       ap (λ (z : ℕ). a .target .start + z + a .s0) (c .before .place-in-block2 .ensures),
-      panel-none _ _ _ _ _ _ _,
+      panel-none (λ r s e. omega (arith, e .lower, e .row, e .left)),
     )
 
 add-least : tie.Need-add-least Inv-loop μ-loop
-add-least c =
-    let pre = c .before .before .before .before .before .before .before .before .before .before .before .pre in
-    omega (arith, pre .0 .below, pre .0 .order, c .if1 .taken)
+add-least c = omega (arith, c .if1 .taken, c .before .before .before .before .before .before .before .before .before .before .before .pre .0)
 
 sub-least : tie.Need-sub-least Inv-loop μ-loop
 sub-least c = omega (arith, c .before .before .loop .inv .0)
@@ -111,92 +62,52 @@ least-requires c κs = search needs
 
 update-row-requires : tie.Need-update-row-requires Inv-loop μ-loop
 update-row-requires c κs =
-    let a = c .before .before .before .before .before .before .before .before .before .before .before .before .before .args in
-    let pre = c .before .before .before .before .before .before .before .before .before .before .before .before .before .pre in
+    let entry = c .before .before .before .before .before .before .before .before .before .before .before .before .before in
+    let a = entry .args in
     let l = c .before .before .before .before .loop in
     rw (l .inv .2)
-    (row-ready (a .m .now) (l .m) (l .m) (pre .0) (l .r) (l .inv .0) (c .before .before .if1 .taken) (l .inv .4) (a .panel .now) (a .packed) _ _
-    (pre .1 .0) (pre .1 .1)
-    (l .inv .3) (c .before .least .ensures))
+    (row-ready (entry .pre .0) (l .r) (l .inv .0) (c .before .before .if1 .taken) (l .inv .4) (a .panel .now)
+    (a .packed) _ _ (entry .pre .1 .0) (entry .pre .1 .1) (l .inv .3) (c .before .least .ensures))
 
 add-r : tie.Need-add-r Inv-loop μ-loop
-add-r c =
-    let pre = c .before .before .before .before .before .before .before .before .before .before .before .before .before .before .before .before .pre in
-    omega (arith, pre .0 .below, pre .0 .order, c .before .before .before .before .before .if1 .taken)
+add-r c = omega (arith, c .before .before .before .before .before .if1 .taken, c .before .before .before .before .before .before .before .before .before .before .before .before .before .before .before .before .pre .0)
 
 add-least-2 : tie.Need-add-least-2 Inv-loop μ-loop
-add-least-2 c =
-    let pre = c .before .before .before .before .before .before .before .before .before .before .before .before .before .before .before .before .pre in
-    omega (arith, pre .0 .below, pre .0 .order, c .before .before .before .before .before .if1 .taken)
+add-least-2 c = omega (arith, c .before .before .before .before .before .if1 .taken, c .before .before .before .before .before .before .before .before .before .before .before .before .before .before .before .before .pre .0)
 
 least-requires-2 : tie.Need-least-requires-2 Inv-loop μ-loop
 least-requires-2 c κs = search needs
 
 add-x-2 : tie.Need-add-x-2 Inv-loop μ-loop
 add-x-2 c =
-    let a = c .before .before .before .before .before .before .before .before .before .before .before .before .before .before .before .before .before .args in
+    let entry = c .before .before .before .before .before .before .before .before .before .before .before .before .before .before .before .before .before in
     let l = c .before .before .before .before .before .before .before .before .loop in
-    let pre = c .before .before .before .before .before .before .before .before .before .before .before .before .before .before .before .before .before .pre in
-    let if1 = c .before .before .before .before .before .before .if1 in
-    omega (
-      arith,
-      c .least2 .ensures,
-      l .inv .2,
-      pre .0 .rows,
-      pre .0 .below,
-      if1 .taken,
-      c .before .before .before .before .before .before .before .before .before .before .before .before .before .before .before .before .before .good,
-      row-next (a .source .width) (a .source .rows - a .target .rows + l .r),
-      row-mono (a .source .width) (a .source .rows - a .target .rows + l .r + 1) (a .source .rows) (omega (arith, pre .0 .below, if1 .taken)),
-    )
+    omega (arith, c .least2 .ensures, next-fits (entry .pre .0) (l .r) (l .x) (l .y) (c .before .before .before .before .before .before .if1 .taken) (l .inv .2) (l .inv .3), entry .good)
 
 least-requires-3 : tie.Need-least-requires-3 Inv-loop μ-loop
 least-requires-3 c κs = search needs
 
 add-y-3 : tie.Need-add-y-3 Inv-loop μ-loop
 add-y-3 c =
-    let pre = c .before .before .before .before .before .before .before .before .before .before .before .before .before .before .before .before .before .before .pre in
+    let entry = c .before .before .before .before .before .before .before .before .before .before .before .before .before .before .before .before .before .before in
     let l = c .before .before .before .before .before .before .before .before .before .loop in
-    let a = c .before .before .before .before .before .before .before .before .before .before .before .before .before .before .before .before .before .before .args in
-    let if1 = c .before .before .before .before .before .before .before .if1 in
-    omega (
-      arith,
-      c .least3 .ensures,
-      l .inv .3,
-      pre .0 .room,
-      pre .0 .wide,
-      pre .0 .tall,
-      pre .0 .below,
-      pre .0 .order,
-      if1 .taken,
-      c .before .before .before .before .before .before .before .before .before .before .before .before .before .before .before .before .before .before .good,
-      row-next (a .target .width) (l .r),
-      row-mono (a .target .width) (l .r + 1) (a .target .rows) (omega (arith, if1 .taken)),
-    )
+    omega (arith, c .least3 .ensures, next-fits (entry .pre .0) (l .r) (l .x) (l .y) (c .before .before .before .before .before .before .before .if1 .taken) (l .inv .2) (l .inv .3), entry .good)
 
 loop-less : tie.Need-loop-less Inv-loop μ-loop
 loop-less c = omega (arith, c .before .before .before .before .before .before .before .if1 .taken)
 
 loop-again : tie.Need-loop-again Inv-loop μ-loop
 loop-again c =
-    let if1 = c .before .before .before .before .before .before .before .if1 in
-    let pre = c .before .before .before .before .before .before .before .before .before .before .before .before .before .before .before .before .before .before .pre in
-    let a = c .before .before .before .before .before .before .before .before .before .before .before .before .before .before .before .before .before .before .args in
+    let entry = c .before .before .before .before .before .before .before .before .before .before .before .before .before .before .before .before .before .before in
     let l = c .before .before .before .before .before .before .before .before .before .loop in
-    let source-next : a .source .rows - a .target .rows + l .r + 1 ≡ a .source .rows - a .target .rows + (l .r + 1) = omega arith in (
+    let taken = c .before .before .before .before .before .before .before .if1 .taken in
+    let next = next-fits (entry .pre .0) (l .r) (l .x) (l .y) taken (l .inv .2) (l .inv .3) in (
       omega (arith, l .inv .0),
-      omega (arith, if1 .taken),
-      omega (
-        arith,
-        c .before .least2 .ensures,
-        l .inv .2,
-        row-next (a .source .width) (a .source .rows - a .target .rows + l .r),
-        ap (rowStart (a .source .width)) source-next,
-      ),
-      omega (arith, c .least3 .ensures, l .inv .3, row-next (a .target .width) (l .r)),
-      panel-next (a .m .now) (l .m) _ (pre .0) (l .r) (l .inv .0) (if1 .taken) (l .inv .4)
-          (rw (l .inv .2, l .inv .3, c .before .before .before .before .before .before .least .ensures) at
-          (c .before .before .before .before .update-row .ensures)),
+      omega (arith, taken),
+      omega (arith, c .before .least2 .ensures, next .0),
+      omega (arith, c .least3 .ensures, next .1),
+      panel-next (entry .pre .0) (l .r) (l .inv .0) taken (l .inv .4)
+          (rw (l .inv .2, l .inv .3, c .before .before .before .before .before .before .least .ensures) at (c .before .before .before .before .update-row .ensures)),
     )
 
 same-length : tie.Need-same-length Inv-loop μ-loop

@@ -1,5 +1,5 @@
 -- `solve::blocked::forward_rows8` meets its contract: eight rows are gathered, reduced and scattered. Assumes nothing.
-use Prim.Native.Nat.{ℕ, _+_, _-_, _*_}
+use Prim.Native.Nat.{ℕ, _+_, _*_}
 use native.Mathlib.Omega.{arith}
 use mathlib.Core.Path.{_∙_}
 use denote.Ref.{now}

@@ -12,16 +12,20 @@ check-solver-requires c κs = search needs
 accepted-requires : tie.Need-accepted-requires
 accepted-requires c κs = search needs
 
+result-requires : tie.Need-result-requires
+result-requires c κs = search needs
+
 same-length : tie.Need-same-length
 same-length c = search needs
 
 returns : tie.Need-returns
 returns c =
-    let a = c .before .before .before .before .before .before .before .args in
-    let check-solver = c .before .before .check-solver in
-    let accepted = c .before .accepted in
-    checks-refused (a .layout) (a .shape .order) (a .shape .block) (a .m) (a .matrix .now) (a .rhs .now) (a .work .now) (check-solver .result)
-    (check-solver .ensures) (refused-of (accepted .result) (check-solver .result) (accepted .ensures) (c .if1 .taken))
+    let a = c .before .before .before .before .before .before .before .before .args in
+    let check-solver = c .before .before .before .check-solver in
+    let accepted = c .before .before .accepted in
+    rw (c .result .ensures)
+    (checks-refused (a .layout) (a .shape .order) (a .shape .block) (a .m) (a .matrix .now) (a .rhs .now) (a .work .now) (check-solver .result)
+    (check-solver .ensures) (refused-of (accepted .result) (check-solver .result) (accepted .ensures) (c .before .if1 .taken)))
 
 slice-relend-prefix-solve-cleared : tie.Need-slice-relend-prefix-solve-cleared
 slice-relend-prefix-solve-cleared c =
@@ -52,6 +56,9 @@ solve-cleared-requires c κs =
           (accepted-of (accepted .result) (check-solver .result) (accepted .ensures) (if1 .left)),
     )
 
+result-requires-2 : tie.Need-result-requires-2
+result-requires-2 c κs = search needs
+
 same-length-2 : tie.Need-same-length-2
 same-length-2 c = search needs
 
@@ -60,14 +67,14 @@ same-length-3 c = search needs
 
 returns-2 : tie.Need-returns-2
 returns-2 c =
-    let a = c .before .before .before .before .before .before .before .before .before .before .before .before .before .before .args in
-    let solve-cleared = c .before .before .before .before .solve-cleared in
-    let check-solver = c .before .before .before .before .before .before .before .before .before .check-solver in
-    let accepted = c .before .before .before .before .before .before .before .before .accepted in
-    rw (solve-cleared .ensures .1)
+    let a = c .before .before .before .before .before .before .before .before .before .before .before .before .before .before .before .args in
+    let solve-cleared = c .before .before .before .before .before .solve-cleared in
+    let check-solver = c .before .before .before .before .before .before .before .before .before .before .check-solver in
+    let accepted = c .before .before .before .before .before .before .before .before .before .accepted in
+    rw (c .result2 .ensures, solve-cleared .ensures .1)
     (all-done (a .layout) (a .shape .order) (a .shape .block) (a .m) (a .matrix .now) (a .rhs .now) (a .work .now) (check-solver .result)
     (check-solver .ensures) (accepted-of (accepted .result) (check-solver .result) (accepted .ensures)
-    (c .before .before .before .before .before .before .before .if1 .left)) (solve-cleared .result) (solve-cleared .last .1 .1 .1 .1 .0)
+    (c .before .before .before .before .before .before .before .before .if1 .left)) (solve-cleared .result) (solve-cleared .last .1 .1 .1 .1 .0)
     (solve-cleared .ensures .0))
 
 pub solve-spec : {M : Type 1} → statement M
@@ -76,11 +83,13 @@ solve-spec =
     (tie.spec
     check-solver-requires
     accepted-requires
+    result-requires
     same-length
     returns
     slice-relend-prefix-solve-cleared
     slice-aggregate-solve-cleared
     solve-cleared-requires
+    result-requires-2
     same-length-2
     same-length-3
     returns-2)

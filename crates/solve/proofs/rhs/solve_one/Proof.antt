@@ -1,8 +1,7 @@
 -- `solve::rhs::solve_one` meets its contract: a solution that passes takes the place of its right-hand side. Assumes nothing.
+use mathlib.Core.Path.{refl}
 use borrow.Author.Needs.{needs}
-use denote.Ref.{now}
-use Rattle.solve.specs.Solving.{factorOf}
-use Rattle.solve.proofs.RightSides.{one-refused, one-solved}
+use borrow.Author.Tests.{not-true, not-false}
 use Rattle.solve.proofs.rhs.solve_one.Statement.{statement}
 use Rattle.solve.proofs.rhs.solve_one.Tie as tie
 
@@ -20,9 +19,9 @@ same-length-2 c = search needs
 
 returns : tie.Need-returns
 returns c =
-    let args = c .before .before .before .before .before .before .before .before .before .before .before .before .before .args in
-    one-refused (args .shape .order) (factorOf (args .layout) (args .shape .order) (args .shape .block) (now (args .matrix))) (now (args .rhs)) _ _ _
-    (c .before .before .before .before .before .before .before .copy .ensures) (c .before .before .before .substitute .ensures) (c .if1 .taken)
+    let copied = c .before .before .before .before .before .before .before .copy .ensures in
+    let tried = c .before .before .before .substitute in
+    record { verdict = cc (not-true (tried .result) (c .if1 .taken), tried .ensures .verdict, copied); kept = refl }
 
 copy-requires-2 : tie.Need-copy-requires-2
 copy-requires-2 c κs = search needs
@@ -35,11 +34,13 @@ same-length-4 c = search needs
 
 returns-2 : tie.Need-returns-2
 returns-2 c =
-    let args = c .before .before .before .before .before .before .before .before .before .before .before .before .before .before .before .before .before .before .args in
-    one-solved (args .shape .order) (factorOf (args .layout) (args .shape .order) (args .shape .block) (now (args .matrix))) (now (args .rhs)) _ _ _ _
-    (c .before .before .before .before .before .before .before .before .before .before .before .before .copy .ensures)
-    (c .before .before .before .before .before .before .before .before .substitute .ensures) (c .before .before .before .before .before .if1 .left)
-    (c .before .before .copy2 .ensures)
+    let copied = c .before .before .before .before .before .before .before .before .before .before .before .before .copy .ensures in
+    let tried = c .before .before .before .before .before .before .before .before .substitute in
+    let passed = not-false (tried .result) (c .before .before .before .before .before .if1 .left) in
+    record {
+      verdict = cc (passed, tried .ensures .verdict, copied);
+      kept = cc (c .before .before .copy2 .ensures, tried .ensures .solved passed, copied);
+    }
 
 pub solve-one-spec : {M : Type 1} → statement M
 solve-one-spec =

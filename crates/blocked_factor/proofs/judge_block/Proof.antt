@@ -1,0 +1,105 @@
+-- `blocked_factor::judge_block` meets its contract. Assumes nothing.
+use Prim.Native.Nat.{_+_, _<_}
+use native.Mathlib.Omega.{arith}
+use native.Mathlib.Decide.{decLt}
+use mathlib.Core.Path.{_≡_, _∙_}
+use mathlib.Core.Logic.{_⊎_, inl, inr, ⊎-elim}
+use mathlib.Core.Bool.{true, false}
+use lib.ListN.{length}
+use Rattle.calls.specs.Refusals.{accepted}
+use Rattle.calls.proofs.Judging.{refused-of, accepted-of}
+use Rattle.blocked_factor.specs.BlockColumns.{rowStart}
+use Rattle.blocked_factor.proofs.BlockRows.{row-lt}
+use Rattle.blocked_factor.proofs.BlockVerdicts.{verdict-first, verdict-pivot, verdict-overflow}
+use borrow.Author.Needs.{needs}
+use Rattle.blocked_factor.proofs.judge_block.Statement.{statement}
+use Rattle.blocked_factor.proofs.judge_block.Tie as tie
+
+lowest-overflow-requires : tie.Need-lowest-overflow-requires
+lowest-overflow-requires c κs = search needs
+
+-- past the first test the overflow lies inside
+narrow : (c : tie.Else1) → c .before .lowest-overflow .result < c .before .before .before .args .width
+narrow c =
+    elim (decLt (c .before .lowest-overflow .result) (c .before .before .before .args .width)) [
+      | yes p ↦ p
+      | no p ↦ absurd (c .if1 .left (omega (arith, c .before .lowest-overflow .ensures .inside)))
+    ]
+
+room : (c : tie.Else1)
+    → let a = c .before .before .before .args in
+    rowStart (a .width) (c .before .lowest-overflow .result) + c .before .lowest-overflow .result < length (a .part .now)
+room c =
+    let a = c .before .before .before .args in
+    let s = c .before .lowest-overflow .result in
+    let pre = c .before .before .before .pre in
+    omega (arith, pre, row-lt (a .width) s (a .rows) s (omega (arith, pre, narrow c)) (omega (arith, narrow c)))
+
+returns : tie.Need-returns
+returns c =
+    λ n a order stage before e.
+    let args = c .before .before .before .args in
+    verdict-first n a (args .c) (args .width) (args .rows) (args .part .now) order (omega (arith, c .before .before .before .pre)) stage before (c .before .lowest-overflow .result)
+    (c .before .lowest-overflow .ensures) (args .first) e (c .if1 .taken)
+
+accepted-requires : tie.Need-accepted-requires
+accepted-requires c κs = search needs
+
+add-if3 : tie.Need-add-if3
+add-if3 c = search needs
+
+returns-2 : tie.Need-returns-2
+returns-2 c =
+    λ n a order stage before e.
+    let args = c .before .before .before .before .before .before .before .args in
+    verdict-pivot n a (args .c) (args .width) (args .rows) (args .part .now) order (omega (arith, c .before .before .before .before .before .before .before .pre)) stage before (c .before .before .before .before .before .lowest-overflow .result)
+    (c .before .before .before .before .before .lowest-overflow .ensures) (args .first) e (narrow (c .before .before .before .before)) (refused-of _ (args .first) (c .before .before .before .accepted .ensures) (c .before .before .if2 .taken))
+    (c .if3 .taken)
+
+place-in-block-requires : tie.Need-place-in-block-requires
+place-in-block-requires c κs = search needs
+
+add-p : tie.Need-add-p
+add-p c = omega (arith, c .place-in-block .ensures, room (c .before .before .before))
+
+add-judge-column : tie.Need-add-judge-column
+add-judge-column c = search needs
+
+mul-t13 : tie.Need-mul-t13
+mul-t13 c = omega (arith, c .place-in-block .ensures, room (c .before .before .before))
+
+shared-slice-read-t15 : tie.Need-shared-slice-read-t15
+shared-slice-read-t15 c = omega (arith, c .before .place-in-block .ensures, room (c .before .before .before .before))
+
+judge-column-requires : tie.Need-judge-column-requires
+judge-column-requires c κs = search needs
+
+returns-3 : tie.Need-returns-3
+returns-3 c =
+    λ n a order stage before e.
+    let args = c .before .before .before .before .before .before .before .before .args in
+    let accept = c .before .before .before .before .accepted in
+    let decided : (accepted (args .first) ≡ true) ⊎ ((accepted (args .first) ≡ false) × (args .c + c .before .before .before .before .before .before .lowest-overflow .result < args .first .place)) =
+    ⊎-elim (λ w. inr (refused-of (accept .result) (args .first) (accept .ensures) (w .0 .taken), w .2 .left))
+    (λ w. inl (accepted-of (accept .result) (args .first) (accept .ensures) (w .left))) (c .before .before .before .if2 .came)
+    in
+    (rw (c .before .before .place-in-block .ensures) at (c .judge-column .ensures))
+    ∙ verdict-overflow n a (args .c) (args .width) (args .rows) (args .part .now) order (omega (arith, c .before .before .before .before .before .before .before .before .pre)) stage before (c .before .before .before .before .before .before .lowest-overflow .result)
+    (c .before .before .before .before .before .before .lowest-overflow .ensures) (args .first) e (narrow (c .before .before .before .before .before)) decided
+
+pub judge-block-spec : {M : Type 1} → statement M
+judge-block-spec =
+    tie.close
+    (tie.spec
+    lowest-overflow-requires
+    returns
+    accepted-requires
+    add-if3
+    returns-2
+    place-in-block-requires
+    add-p
+    add-judge-column
+    mul-t13
+    shared-slice-read-t15
+    judge-column-requires
+    returns-3)
