@@ -1,4 +1,5 @@
-// Reads one job from standard input and writes its listing to standard output. A failed read or write is told on standard error.
+// Reads one job from standard input and writes its listing to standard output. A failed read or write, and nothing else, is told on standard
+// error, which the launcher run-job turns into status 1.
 ghost use Prim.Native.Nat.{_≤_};
 ghost use lib.ListN.{length};
 use job::LISTING;
@@ -62,12 +63,10 @@ fn main() {
         return;
     }
     let end = job::run(&file[..size], &mut out);
-    if end <= LISTING {
-        if !io::write_all(STDOUT_FILENO, &out[..end]) {
-            io::write_all(
-                STDERR_FILENO,
-                b"run_job: the listing could not be written\n",
-            );
-        }
+    if !io::write_all(STDOUT_FILENO, &out[..end]) {
+        io::write_all(
+            STDERR_FILENO,
+            b"run_job: the listing could not be written\n",
+        );
     }
 }

@@ -2,6 +2,7 @@
 use native.Mathlib.Omega.{arith}
 use mathlib.Core.Path.{sym}
 use lib.Seq.{length-take-le}
+use Rattle.job.proofs.Texts.{written-within}
 use borrow.Author.Needs.{needs}
 use Rattle.run_job.proofs.main.Statement.{statement}
 use Rattle.run_job.proofs.main.Tie as tie
@@ -34,10 +35,10 @@ run-requires : tie.Need-run-requires
 run-requires c κs = search needs
 
 array-share-prefix-out : tie.Need-array-share-prefix-out
-array-share-prefix-out c = search needs
+array-share-prefix-out c = omega (arith, written-within (c .before .run .ensures) (c .before .run .kept .1 .0))
 
 slice-aggregate-write-all-2 : tie.Need-slice-aggregate-write-all-2
-slice-aggregate-write-all-2 c = sym (length-take-le _ _ (omega (arith, c .before .before .before .run .kept)))
+slice-aggregate-write-all-2 c = sym (length-take-le _ _ (omega (arith, written-within (c .before .before .run .ensures) (c .before .before .run .kept .1 .0))))
 
 write-all-requires-2 : tie.Need-write-all-requires-2
 write-all-requires-2 c κs = search needs
@@ -53,9 +54,6 @@ returns-2 c = search needs
 
 returns-3 : tie.Need-returns-3
 returns-3 c = search needs
-
-returns-4 : tie.Need-returns-4
-returns-4 c = search needs
 
 pub main-spec : {M : Type 1} → statement M
 main-spec =
@@ -76,5 +74,4 @@ main-spec =
     slice-aggregate-write-all-3
     write-all-requires-3
     returns-2
-    returns-3
-    returns-4)
+    returns-3)
