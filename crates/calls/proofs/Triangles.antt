@@ -8,8 +8,9 @@ use mathlib.Core.List.{List, []}
 use lib.ListN.{length, getD}
 use lib.Seq.{ext-getD}
 use lib.Ieee.{Float, nan}
-use Rattle.shape.specs.Places.{triangle}
+use Rattle.shape.specs.Places.{triangle, packedPlace, blockedPlace}
 use Rattle.shape.specs.Layouts.{Entry, Bijection}
+use Rattle.shape.proofs.Blocks.{blocked-place-one}
 use Rattle.calls.specs.Sequences.{iterate, tabulate}
 use Rattle.calls.specs.Triangles.{Triangle, entry, height, load, storeColumn, store}
 use Rattle.calls.proofs.Sequences.{length-tabulate, getD-tabulate}
@@ -60,6 +61,18 @@ module _ (place : ℕ → ℕ → ℕ) (n : ℕ) (m : List Float) where
       ap (λ c. getD c (i - j) nan) (column-load j (omega arith))
       ∙ getD-tabulate (λ r. getD m (place (j + r) j) nan) (n - j) (i - j) nan (omega arith)
       ∙ ap (λ x. getD m (place x j) nan) back
+
+-- layouts that keep each entry at the same place
+load-same :
+    (place place′ : ℕ → ℕ → ℕ) (n : ℕ) (m : List Float) → ((i j : ℕ) → Entry n i j → place i j ≡ place′ i j) →
+    load place (height n) n m ≡ load place′ (height n) n m
+load-same place place′ n m same =
+    triangle-ext n n (load place (height n) n m) (load place′ (height n) n m) (omega arith) (shaped-load place n m) (shaped-load place′ n m)
+    (λ i j e h. entry-load place n m i j e ∙ ap (λ p. getD m p nan) (same i j e) ∙ sym (entry-load place′ n m i j e))
+
+-- with block length 1, blocked order is packed order
+pub load-one : (n : ℕ) (m : List Float) → load (blockedPlace n 1) (height n) n m ≡ load (packedPlace n) (height n) n m
+load-one n m = load-same (blockedPlace n 1) (packedPlace n) n m (blocked-place-one n)
 
 -- ---- writing
 

@@ -4,12 +4,13 @@ use mathlib.Core.Path.{_≡_, refl}
 use Prim.Native.Nat.{ℕ, zero, suc, _+_, _-_, _*_, _/_, _≤_, _<_, min}
 use native.Mathlib.Nat.{add-zero, zero-add, mul-comm, mul-div-le, lt-mul-div-succ}
 use native.Mathlib.Omega.{arith}
+use native.Mathlib.Decide.{decLt}
 use lib.Arith.{digits-div}
-use Rattle.shape.specs.Places.{blockOf, blockStart, width, placeInBlock, blockedPlace}
+use Rattle.shape.specs.Places.{packedPlace, blockOf, blockStart, width, placeInBlock, blockedPlace}
 use Rattle.shape.specs.Layouts.{Entry}
 use Rattle.shape.proofs.Parts.{starts, starts-zero}
-use Rattle.shape.proofs.Columns.{block-start-zero, block-start-split}
-use Rattle.shape.proofs.Rows.{rowLength, block-start-rows, place-in-block-row}
+use Rattle.shape.proofs.Columns.{block-start-zero, block-start-split, packed-place-column}
+use Rattle.shape.proofs.Rows.{rowLength, block-start-rows, place-in-block-row, place-in-block-one}
 
 -- ---- first columns
 
@@ -41,6 +42,22 @@ unfolding blockOf
 block-of-next b c h first =
     let next : b * (c / b + 1) ≡ c + b = omega arith in
     rw next at (block-of-first b (c / b + 1) h)
+
+-- the block column after the one at k is at c or before it
+pub block-before : (b k c : ℕ) → blockOf b k ≡ k → blockOf b c ≡ c → k < c → k + b ≤ c
+block-before b k c first first′ h = go (decLt c (k + b))
+  where
+    go : Dec (c < k + b) → k + b ≤ c
+    go (no p) = omega arith
+    go (yes p) =
+        let place : k + (c - k) ≡ c = omega arith in
+        let same : blockOf b c ≡ k = rw place at (block-of-inside b k (c - k) first (omega arith)) in
+        absurd (omega arith)
+
+-- a block column of w columns ends at the start of row n − c of it, were there one
+pub block-end : (n c w : ℕ) → c + w ≤ n → blockStart n (c + w) ≡ blockStart n c + placeInBlock w (n - c) 0
+block-end n c w h =
+    omega (arith, block-start-split n c w h, block-start-rows (n - c) w (omega arith), place-in-block-row w (n - c) 0)
 
 -- ---- widths
 
@@ -141,3 +158,16 @@ blocked-place-part n b i j hb e =
     let c : ℕ = blockOf b j in
     rw (blocked-place-first (n - c) (width n b c) (i - c) (j - c) (column-in-width n b j hb (omega arith)) (width-le n b c))
     (blocked-place-block n b i j)
+
+-- ---- block length 1
+
+pub block-of-one : (j : ℕ) → blockOf 1 j ≡ j
+block-of-one j = omega (arith, block-of-le 1 j, block-of-lt 1 j (omega arith))
+
+-- blocked order is packed order
+pub blocked-place-one : (n i j : ℕ) → Entry n i j → blockedPlace n 1 i j ≡ packedPlace n i j
+blocked-place-one n i j e =
+    let none : j - j ≡ 0 = omega arith in
+    let one : width n 1 j ≡ 1 = width-full n 1 j (omega arith) in
+    rw (blocked-place-block, block-of-one j, none, one, place-in-block-one)
+    (omega (arith, packed-place-column n i j (e .lower) (omega arith)))

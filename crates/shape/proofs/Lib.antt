@@ -3,6 +3,7 @@ pub mod Parts
 pub mod Columns
 pub mod Rows
 pub mod Blocks
+pub mod Runs
 pub mod Bijections
 pub mod Bounds
 pub mod Examples

@@ -1,6 +1,6 @@
 -- The rows of a block column of width w, as parts laid end to end: the rows of its diagonal block, then those under it, each of
 -- w entries. Assumes nothing.
-use mathlib.Core.Path.{_≡_, ap}
+use mathlib.Core.Path.{_≡_, refl, ap}
 use Prim.Native.Nat.{ℕ, zero, suc, _+_, _-_, _*_, _≤_, _<_, min}
 use native.Mathlib.Nat.{add-zero, add-suc}
 use native.Mathlib.Decide.{decLt}
@@ -38,6 +38,11 @@ unfolding starts
 row-start-le w zero = omega arith
 row-start-le w (suc r) = omega (arith, row-start-le w r, ap triangle (add-one r), triangle-next r)
 
+row-start-one : (r : ℕ) → starts (rowLength 1) r ≡ r
+unfolding starts
+row-start-one zero = refl
+row-start-one (suc r) = omega (arith, row-start-one r)
+
 -- ---- the values of a block column of h rows
 
 block-values : (w m : ℕ) → blockStart (w + m) w ≡ triangle w + m * w
@@ -62,6 +67,10 @@ place-in-block-row w r s = go (decLt r w)
     go (no outside) =
         let under : w ≤ r = omega arith in
         rw (le-ltb r w under) (omega (arith, row-start-under w r under))
+
+-- one column, row by row
+pub place-in-block-one : (r : ℕ) → placeInBlock 1 r 0 ≡ r
+place-in-block-one r = omega (arith, place-in-block-row 1 r 0, row-start-one r)
 
 pub place-in-block-le : (w r s : ℕ) → placeInBlock w r s ≤ triangle r + s
 place-in-block-le w r s = omega (arith, place-in-block-row w r s, row-start-le w r)
