@@ -44,7 +44,7 @@ next-first {n} {b} {c} {len} here inside = go (decLt (n - c) b)
   where
     go : Dec (n - c < b) → blockOf b (c + width n b c) ≡ c + width n b c
     go (yes last) = absurd (omega (arith, width-last n b c (omega arith)))
-    go (no full) = rw (width-full n b c (omega arith)) (block-of-next b c (here .block) (here .first))
+    go (no full) = rw (width-full n b c (omega arith)) (block-of-next b c (omega (arith, here .block)) (here .first))
 
 -- the first c columns are finished and accepted
 pub record Reached (n b : ℕ) (m : List Float) (c : ℕ) (m′ : List Float) : Type 0 where

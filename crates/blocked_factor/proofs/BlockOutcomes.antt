@@ -1,6 +1,7 @@
 -- The outcome of the blocked factor against its definition: refused by a check, or factored up to the block column of the first refused column.
 -- Assumes nothing.
 use Prim.Native.Nat.{ℕ, _≤_}
+use native.Mathlib.Omega.{arith}
 use mathlib.Core.Path.{_≡_, sym, ap, _∙_}
 use mathlib.Core.Bool.{true}
 use mathlib.Core.List.{List, _++_}
@@ -29,11 +30,11 @@ module _ (n b : ℕ) (m w : List Float) (checks : Verdict) (e : checks ≡ facto
       pub work-fits : needed ≤ length w
       work-fits = rw size (checks-accepted .sizes .work)
 
-      pub blocks-sized : Sized n b (length m) (length (take needed w))
-      blocks-sized =
+      pub blocks-sized : (b ≡ 1 → ⊥) → Sized n b (length m) (length (take needed w))
+      blocks-sized several =
           record {
             order = checks-accepted .sizes .order;
-            block = checks-accepted .sizes .blockLow tt;
+            block = omega (arith, checks-accepted .sizes .blockLow tt);
             blockHigh = checks-accepted .sizes .blockHigh tt;
             matrix = checks-accepted .sizes .matrix;
             work = length-take-le needed w work-fits ∙ size;

@@ -1,6 +1,6 @@
 -- From the part of the memory that begins at a block column's start to the whole memory, and from places to entries. Assumes nothing.
-use Prim.Native.Nat.{ℕ, zero, suc, _+_, _-_, _*_, _≤_, _<_, min}
-use native.Mathlib.Nat.{mul-le-mul, mul-le-mul-right}
+use Prim.Native.Nat.{ℕ, _+_, _-_, _*_, _≤_, _<_, min}
+use native.Mathlib.Nat.{mul-le-mul-left, mul-le-mul-right}
 use native.Mathlib.Omega.{arith}
 use native.Mathlib.Decide.{decLt}
 use mathlib.Core.Path.{_≡_, sym, ap, _∙_, subst}
@@ -10,11 +10,11 @@ use lib.Dec.{T}
 use lib.ListN.{length, getD, take, drop}
 use lib.Seq.{ext-getD}
 use lib.Ieee.{Float, nan}
-use Rattle.shape.specs.Places.{blockOf, blockStart, width, placeInBlock, blockedPlace, blockWork}
+use Rattle.shape.specs.Places.{blockOf, blockStart, width, blockedPlace, blockWork}
 use Rattle.shape.specs.Layouts.{Entry}
 use Rattle.shape.proofs.Rows.{place-in-block-row, row-start-under}
 use Rattle.shape.proofs.Columns.{triangle-exact}
-use Rattle.shape.proofs.Blocks.{block-of-le, block-of-lt, block-of-block, block-of-next, width-le, width-le-block, width-full, width-last, blocked-place-at, blocked-place-block}
+use Rattle.shape.proofs.Blocks.{block-of-le, block-of-lt, block-of-block, block-of-next, block-before, block-end, width-le, width-le-block, width-full, width-last, blocked-place-at, blocked-place-block}
 use Rattle.shape.proofs.Bounds.{block-start-mono}
 use Rattle.calls.specs.declared.Verdict.{Verdict}
 use Rattle.calls.specs.Triangles.{Triangle}
@@ -23,11 +23,12 @@ use Rattle.calls.specs.Refusals.{accepted}
 use Rattle.calls.proofs.Columns.{products-same}
 use Rattle.kernels.specs.Kernels.{Filled, Replaced, rowAt}
 use Rattle.kernels.proofs.Parts.{getD-part}
+use Rattle.kernels.proofs.Runs.{square-ge}
 use Rattle.blocked_factor.specs.BlockColumns.{rowStart, PanelUpdated}
 use Rattle.blocked_factor.specs.BlockStages.{factorEntry, lessProducts, Stage, allRows, BlockColumnFactored}
 use Rattle.blocked_factor.specs.BlockSteps.{BlockAt, rowOf, FactoredTo, BlockFactored, BlockDone}
 use Rattle.blocked_factor.proofs.BlockRows.{row-lt}
-use Rattle.blocked_factor.proofs.EarlierBlocks.{block-end, block-before, inside-le, block-room, next-le, earlier-end}
+use Rattle.blocked_factor.proofs.EarlierBlocks.{inside-le, block-room, place-before}
 
 -- ---- places
 
@@ -37,25 +38,7 @@ module _ {n b c len : ℕ} (here : BlockAt n b c len) where
       blocked-place-at n b c r s (here .first) (omega (arith, width-le-block n b c))
       ∙ omega (arith, place-in-block-row (width n b c) r s, place-in-block-row (width n b c) r 0)
 
-  -- entries of earlier columns stand before the block column
-  pub place-before : (i j : ℕ) → Entry n i j → j < c → blockedPlace n b i j < blockStart n c
-  place-before i j e low =
-      let k : ℕ = blockOf b j in
-      let le : k ≤ j = block-of-le b j in
-      let up : j < k + b = block-of-lt b j (here .block) in
-      let first : blockOf b k ≡ k = block-of-block b j (here .block) in
-      let next : k + b ≤ c = next-le here k first (omega arith) in
-      let full : width n b k ≡ b = width-full n b k (omega (arith, here .inside)) in
-      let place : blockedPlace n b i j ≡ blockStart n k + placeInBlock b (i - k) (j - k) = rw full at (blocked-place-block n b i j) in
-      omega (
-        arith,
-        place-in-block-row b (i - k) (j - k),
-        place-in-block-row b (i - k) 0,
-        row-lt b (i - k) (n - k) (j - k) (omega (arith, e .lower, e .inside)) (omega (arith, e .lower)),
-        earlier-end here k first (omega arith),
-      )
-
-  -- and those of later columns past it
+  -- entries of later columns stand past the block column
   place-after : (i j : ℕ) → Entry n i j → c + width n b c ≤ j → blockStart n c + rowStart (width n b c) (n - c) ≤ blockedPlace n b i j
   place-after i j e high = go (decLt (n - c) b)
     where
@@ -65,7 +48,7 @@ module _ {n b c len : ℕ} (here : BlockAt n b c len) where
           let w : width n b c ≡ b = width-full n b c (omega arith) in
           let k : ℕ = blockOf b j in
           let le : k ≤ j = block-of-le b j in
-          let up : j < k + b = block-of-lt b j (here .block) in
+          let up : j < k + b = block-of-lt b j (omega (arith, here .block)) in
           let later : c + b ≤ k = go′ (decLt k (c + b)) w le up in
           let bound : blockStart n (c + b) ≤ blockStart n k = block-start-mono n (c + b) k later (omega (arith, e .lower, e .inside)) in
           rw w (omega (arith, bound, blocked-place-block n b i j, block-end n c b (omega (arith, inside-le here))))
@@ -74,7 +57,7 @@ module _ {n b c len : ℕ} (here : BlockAt n b c len) where
           go′ (no p) w le up = omega arith
           go′ (yes p) w le up =
               let next : blockOf b j + b ≤ c + b =
-              block-before b (blockOf b j) (c + b) (block-of-block b j (here .block)) (block-of-next b c (here .block) (here .first)) p
+              block-before b (blockOf b j) (c + b) (block-of-block b j (omega (arith, here .block))) (block-of-next b c (omega (arith, here .block)) (here .first)) p
               in
               absurd (omega arith)
 
@@ -172,18 +155,41 @@ module _
 
 -- ---- entry values kept and put back
 
-pub size-le : {n b c len : ℕ} (here : BlockAt n b c len) → rowStart (width n b c) (n - c) ≤ blockWork n b
-unfolding blockWork
-size-le {n} {b} {c} {len} here =
-    let w : ℕ = width n b c in
-    let tall : w ≤ n - c = width-le n b c in
-    let narrow : w ≤ min n b = omega (arith, width-le-block n b c) in
-    let total : (w + (n - c - w)) * w ≤ n * min n b = mul-le-mul (omega arith) narrow in
-    omega (arith, total, place-in-block-row w (n - c) 0, row-start-under w (n - c) tall, triangle-exact w, square-ge w)
-  where
-    square-ge : (w : ℕ) → w ≤ w * w
-    square-ge zero = omega arith
-    square-ge (suc w) = let one : 1 ≤ suc w = omega arith in omega (arith, mul-le-mul-right (suc w) one)
+-- a block column's values are no more than its rows times its columns
+values-le : (w h : ℕ) → w ≤ h → rowStart w h ≤ h * w
+values-le w h full =
+    let rest : w + (h - w) ≡ h = omega arith in
+    omega (arith, place-in-block-row w h 0, row-start-under w h full, triangle-exact w, square-ge w, ap (λ z. z * w) rest)
+
+module _ {n b c len : ℕ} (here : BlockAt n b c len) where
+  values-fit : rowStart (width n b c) (n - c) ≤ (n - c) * min n b
+  values-fit =
+      let narrow : width n b c ≤ min n b = omega (arith, width-le-block n b c, width-le n b c) in
+      omega (arith, values-le (width n b c) (n - c) (width-le n b c), mul-le-mul-left (n - c) narrow)
+
+  pub size-le : rowStart (width n b c) (n - c) ≤ blockWork n b
+  unfolding blockWork
+  size-le =
+      let part : n - c ≤ n = omega arith in
+      omega (arith, values-fit, mul-le-mul-right (min n b) part)
+
+  -- behind the first block column's there is room for two lanes of a block column
+  pub spare-two : 0 < c → rowStart (width n b c) (n - c) + 2 * b ≤ blockWork n b
+  unfolding blockWork
+  spare-two later =
+      let none : blockOf b 0 ≡ 0 = omega (arith, block-of-le b 0) in
+      let low : 0 + b ≤ c = block-before b 0 c none (here .first) later in
+      let full : min n b ≡ b = omega (arith, here .inside) in
+      let two : 2 ≤ c = omega (arith, here .block) in
+      let whole : n - c + c ≡ n = omega (arith, here .inside) in
+      omega (
+        arith,
+        values-fit,
+        mul-le-mul-right b two,
+        ap (λ z. (n - c) * z) full,
+        ap (λ z. n * z) full,
+        ap (λ z. z * b) whole,
+      )
 
 module _
     {n b c : ℕ} {m m₁ : List Float} {answer : Verdict} (factored : BlockFactored n b c m answer m₁) where

@@ -20,7 +20,7 @@ use Rattle.calls.specs.Triangles.{Triangle}
 use Rattle.calls.specs.Arithmetic.{minusProducts}
 use Rattle.calls.specs.Refusals.{accepted, lowestRefusal, columnRules}
 use Rattle.kernels.specs.Kernels.{Scattered, rowAt}
-use Rattle.blocked_factor.specs.BlockColumns.{rowStart, sourceAt, lessPanel, PanelUpdated, ColumnDivided, rootOf}
+use Rattle.blocked_factor.specs.BlockColumns.{rowStart, lessPanel, PanelUpdated, ColumnDivided, rootOf}
 use Rattle.blocked_factor.specs.BlockStages.{judgePivot, Stage, allRows, rowsTo, topRows, RowsFinished, DiagonalFinished, TriangleFinished, BelowFinished, ColumnsFinished}
 use Rattle.blocked_factor.proofs.BlockRows.{row-next, row-mono, row-lt, row-apart}
 use Rattle.blocked_factor.proofs.Stages.{rows-in, rows-above, rows-under, stage-same, panel-pivot, panel-root, panel-quotient, stage-next, stage-updated, stage-all}
@@ -297,7 +297,7 @@ below-next {w} {s0} {e} {from} {r} {m} {m₁} {m₂} g low before rows =
 
 pub panel-finished :
     {c w h s0 g : ℕ} {before answer : Verdict} {m m₁ m₂ m₃ : List Float} → s0 + g ≤ w → w ≤ h →
-    PanelUpdated 0 w h s0 g (sourceAt m 0 w (h - h)) s0 m m₁ → TriangleFinished c w s0 (s0 + g) (s0 + g) before m₁ answer m₂ →
+    PanelUpdated 0 w h s0 g (λ q. rowAt m (0 + rowStart w q)) s0 m m₁ → TriangleFinished c w s0 (s0 + g) (s0 + g) before m₁ answer m₂ →
     BelowFinished w s0 (s0 + g) (s0 + g) h m₂ m₃ → ColumnsFinished c w h s0 (s0 + g) before m answer m₃
 panel-finished {c} {w} {h} {s0} {g} {m = m} {m₁} {m₂} {m₃} wide tall update triangle below =
     record {

@@ -17,7 +17,7 @@ use Rattle.calls.proofs.Columns.{columns, products-same, entry-diagonal, entry-
 use Rattle.calls.proofs.Entries.{row-products}
 use Rattle.kernels.proofs.Products.{minus-add}
 use Rattle.kernels.specs.Kernels.{rowAt}
-use Rattle.blocked_factor.specs.BlockColumns.{rowStart, sourceAt, lessPanel, PanelUpdated}
+use Rattle.blocked_factor.specs.BlockColumns.{rowStart, lessPanel, PanelUpdated}
 use Rattle.blocked_factor.specs.BlockStages.{factorEntry, lessProducts, Stage, allRows, rowsTo, topRows}
 use Rattle.blocked_factor.proofs.BlockRows.{row-apart}
 
@@ -139,7 +139,7 @@ module _ {n : ℕ} {a : Triangle} {c w s0 e : ℕ} {limit : ℕ → ℕ} {m : Li
 
 pub stage-updated :
     (n : ℕ) (a : Triangle) (c w h s0 g : ℕ) (m m′ : List Float) → c + h ≡ n → s0 + g ≤ w → w ≤ h → Stage n a c w s0 s0 (allRows s0) m →
-    PanelUpdated 0 w h s0 g (sourceAt m 0 w (h - h)) s0 m m′ → Stage n a c w s0 (s0 + g) (allRows s0) m′
+    PanelUpdated 0 w h s0 g (λ q. rowAt m (0 + rowStart w q)) s0 m m′ → Stage n a c w s0 (s0 + g) (allRows s0) m′
 stage-updated n a c w h s0 g m m′ order wide tall stage update =
     record {
       finished = λ r s lower high narrow before.
@@ -147,7 +147,7 @@ stage-updated n a c w h s0 g m m′ order wide tall stage update =
       started = λ r s lower high narrow low up.
           let place : 0 + rowStart w r + s ≡ rowStart w r + s = omega arith in
           (rw place at (update .inside r s (record { lower = lower; row = omega arith; left = low; right = up })))
-          ∙ products-same (sourceAt m 0 w (h - h) r) (λ i. factorEntry n a (c + r) (c + i)) (sourceAt m 0 w (h - h) s)
+          ∙ products-same (rowAt m (0 + rowStart w r)) (λ i. factorEntry n a (c + r) (c + i)) (rowAt m (0 + rowStart w s))
           (λ i. factorEntry n a (c + s) (c + i)) s0 (getD m (rowStart w r + s) nan) (λ k few. known r k high (omega arith) few)
           (λ k few. known s k (omega arith) low few)
           ∙ ap (minusProducts (λ i. factorEntry n a (c + r) (c + i)) (λ i. factorEntry n a (c + s) (c + i)) s0)
@@ -164,10 +164,9 @@ stage-updated n a c w h s0 g m m′ order wide tall stage update =
         let same : s ≡ s′ = row-apart w r r′ s s′ (omega arith) (omega (arith, there .lower, there .right)) (omega arith) .1 in
         out (omega (arith, there .left), omega (arith, there .right)))
 
-    known : (r k : ℕ) → c + r < n → s0 ≤ r → k < s0 → sourceAt m 0 w (h - h) r k ≡ factorEntry n a (c + r) (c + k)
+    known : (r k : ℕ) → c + r < n → s0 ≤ r → k < s0 → rowAt m (0 + rowStart w r) k ≡ factorEntry n a (c + r) (c + k)
     known r k high low few =
-        let row : h - h + r ≡ r = omega arith in
-        let place : 0 + rowStart w (h - h + r) + k ≡ rowStart w r + k = omega (arith, ap (rowStart w) row) in
+        let place : 0 + rowStart w r + k ≡ rowStart w r + k = omega arith in
         rw place (stage .finished r k (omega arith) high (omega arith) few)
 
 -- a panel with all rows finished

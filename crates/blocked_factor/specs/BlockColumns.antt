@@ -1,8 +1,8 @@
 -- What the steps of the blocked factor promise of a block column of width w in a memory: it starts at place `at`, and row r of it, which is
 -- row c + r of the matrix, at rowStart w r from there.
-use Prim.Native.Nat.{ℕ, _+_, _-_, _≤_, _<_}
+use Prim.Native.Nat.{ℕ, _+_, _-_, _*_, _≤_, _<_}
 use mathlib.Core.Path.{_≡_}
-use mathlib.Core.Logic.{_≢_, _⊎_}
+use mathlib.Core.Logic.{_≢_}
 use mathlib.Core.Bool.{Bool, false}
 use mathlib.Core.List.{List}
 use lib.Dec.{T}
@@ -21,9 +21,16 @@ use Rattle.kernels.specs.Kernels.{rowAt, laneAt}
 abbrev pub rowStart : ℕ → ℕ → ℕ
 rowStart w r = placeInBlock w r 0
 
--- the first lanes of a panel hold rows of the block column at `start`, from row `first` on
-pub record Packed (panel m : List Float) (start w first count lanes : ℕ) : Type 0 where
-  pub lane : (t k : ℕ) → t < lanes → k < count → laneAt panel t k ≡ rowAt m (start + rowStart w (first + t)) k
+-- the first g of 16 lanes of a panel hold rows of the block column at `start`, from row `first` on
+abbrev pub LanesHold : List Float → List Float → ℕ → ℕ → ℕ → ℕ → ℕ → Type 0
+LanesHold panel m start w first count g =
+    (t k : ℕ) → t < g → k < count → laneAt 16 panel t k ≡ rowAt m (start + rowStart w (first + t)) k
+
+-- a panel has got those rows as its first g lanes, from place `at` on, and is as it was before that place
+pub record Packed (panel panel′ : List Float) (at lanes : ℕ) (m : List Float) (start w first count g : ℕ) : Type 0 where
+  pub size : length panel′ ≡ length panel
+  pub lane : (t k : ℕ) → t < g → k < count → getD panel′ (at + lanes * k + t) nan ≡ rowAt m (start + rowStart w (first + t)) k
+  pub before : (p : ℕ) → p < at → getD panel′ p nan ≡ getD panel p nan
 
 -- column s of row r is one of g columns from s0 on, of the first h rows
 pub record InPanel (h s0 g r s : ℕ) : Type 0 where
@@ -41,22 +48,12 @@ pub record PanelUpdated (at w h s0 g : ℕ) (x : ℕ → ℕ → Float) (count :
   pub outside :
       (p : ℕ) → ((r s : ℕ) → InPanel h s0 g r s → p ≢ at + rowStart w r + s) → getD m′ p nan ≡ getD m p nan
 
--- Row r of the target's h rows is the source's row sh − h + r. The source is an earlier block column, or the target itself with the columns
--- before s0.
-pub record Source (len at w h sat sw sh s0 g count : ℕ) : Type 0 where
-  pub order : sh ≤ maxOrder
-  pub below : h ≤ sh
+-- g columns from s0 on of a block column of w columns and h rows, in a memory of `len` values
+pub record OwnColumns (len at w h s0 g : ℕ) : Type 0 where
+  pub order : h ≤ maxOrder
   pub wide : s0 + g ≤ w
   pub tall : w ≤ h
   pub room : at + rowStart w h ≤ len
-  pub rows : sat + rowStart sw sh ≤ len
-  pub columns : count ≤ sw
-  pub known : count ≤ sh - h + s0
-  pub apart : (sat + rowStart sw sh ≤ at) ⊎ ((sat ≡ at) × (sw ≡ w) × (sh ≡ h))
-
--- column k of row r of the target, in the source
-abbrev pub sourceAt : List Float → ℕ → ℕ → ℕ → ℕ → ℕ → Float
-sourceAt m sat sw d r = rowAt m (sat + rowStart sw (d + r))
 
 -- From here on the block column starts at place 0. Entry (r, s) less its products with columns s0 .. s − 1.
 abbrev pub lessPanel : ℕ → ℕ → List Float → ℕ → ℕ → Float

@@ -16,10 +16,10 @@ use Rattle.calls.specs.Calls.{finished}
 use Rattle.blocked_factor.specs.BlockColumns.{rowStart}
 use Rattle.blocked_factor.specs.BlockStages.{factorEntry, judgeColumn}
 
--- column c begins a block column of a matrix of order n in a memory of its length
+-- column c begins a block column of a matrix of order n, with a block length above 1, in a memory of its length
 pub record BlockAt (n b c len : ℕ) : Type 0 where
   pub order : n ≤ maxOrder
-  pub block : 0 < b
+  pub block : 1 < b
   pub blockHigh : b ≤ maxBlock
   pub inside : c < n
   pub first : blockOf b c ≡ c
@@ -58,7 +58,7 @@ pub record BlockDone (n b c : ℕ) (m : List Float) (answer : Verdict) (m′ : L
 -- a matrix of order n and work memory of the needed lengths
 pub record Sized (n b matrixLength workLength : ℕ) : Type 0 where
   pub order : n ≤ maxOrder
-  pub block : 0 < b
+  pub block : 1 < b
   pub blockHigh : b ≤ maxBlock
   pub matrix : matrixLength ≡ triangle n
   pub work : workLength ≡ blockWork n b

@@ -2,3 +2,4 @@
 pub mod BlockColumns
 pub mod BlockStages
 pub mod BlockSteps
+pub mod Runs

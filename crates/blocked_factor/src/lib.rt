@@ -2,16 +2,16 @@
 ghost use mathlib.Core.Path.{_≡_};
 ghost use Prim.Native.Nat.{ℕ, _+_, _-_, _*_, _≤_, _<_};
 ghost use lib.ListN.{length, getD, replicate};
-ghost use lib.Ieee.{nan};
 ghost use Rattle.binary64.specs.Kinds.{zero64};
 ghost use Rattle.shape.specs.Bounds.{maxOrder};
-ghost use Rattle.shape.specs.Places.{blockStart, width, blockWork};
+ghost use Rattle.shape.specs.Places.{blockWork};
 ghost use Rattle.calls.specs.Refusals.{success};
 ghost use Rattle.calls.specs.Calls.{DoneAs, factorize};
-ghost use Rattle.blocked_factor.specs.BlockColumns.{rowStart, PanelUpdated, ColumnDivided, rootOf, columnFinite, LowestOverflow};
+ghost use Rattle.blocked_factor.specs.BlockColumns.{rowStart, ColumnDivided, rootOf, columnFinite, LowestOverflow};
 ghost use Rattle.blocked_factor.specs.BlockStages.{RowsFinished, DiagonalFinished, TriangleFinished, BelowFinished, ColumnsFinished, BlockVerdict, BlockColumnFactored};
-ghost use Rattle.blocked_factor.specs.BlockSteps.{BlockAt, BlockFactored, BlockDone, Sized, BlocksDone, rowOf};
+ghost use Rattle.blocked_factor.specs.BlockSteps.{BlockAt, BlockFactored, BlockDone, Sized, BlocksDone};
 
+mod runs;
 mod update;
 
 use binary64::Pivot;
@@ -23,10 +23,10 @@ use kernels::divide_entry;
 use kernels::minus_products;
 use kernels::quotients8;
 use kernels::scatter8;
+use runs::update_by_runs;
 use shape::Shape;
 use shape::least;
 use update::BlockColumn;
-use update::update_block;
 use update::update_panel;
 
 // Row r in columns s0 .. end − 1 of a panel, whose diagonals are finished: each entry less its products with the panel's columns before it, and divided
@@ -177,7 +177,7 @@ fn factor_panel(
         width,
         rows,
     };
-    update_panel(part, spare, column, column, s0, g, s0);
+    update_panel(part, spare, column, s0, g);
     let verdict = finish_triangle(part, c, width, s0, s0 + g, before);
     finish_below(part, width, rows, s0, s0 + g);
     verdict
@@ -266,38 +266,13 @@ fn factor_block(part: &mut [f64], spare: &mut [f64], c: usize, width: usize, row
     judge_block(part, c, width, rows, first)
 }
 
-// The block column that begins with column c, less the products of all block columns before it.
-fn update_by_all(m: &mut [f64], spare: &mut [f64], shape: Shape, c: usize)
-    requires { ⌜ BlockAt (shape .order) (shape .block) c (length (now m)) ⌝ }
-    ensures { λ r.
-        ⌜ PanelUpdated (blockStart (shape .order) c) (width (shape .order) (shape .block) c) (shape .order - c) 0
-        (width (shape .order) (shape .block) c) (rowOf (shape .order) (shape .block) c (now (m .entry))) c (now (m .entry)) (now (m .exit)) ⌝ }
-{
-    let order = shape.order;
-    let block = shape.block;
-    let target = BlockColumn {
-        start: shape.block_start(c),
-        width: shape.block_width(c),
-        rows: order - c,
-    };
-    let mut k = 0;
-    while k < c {
-        let source = BlockColumn {
-            start: shape.block_start(k),
-            width: block,
-            rows: order - k,
-        };
-        update_block(m, spare, target, source, block);
-        k += block;
-    }
-}
-
 // The block column that begins with column c; it is worked on as a part of the memory from its start on.
 fn factor_part(m: &mut [f64], spare: &mut [f64], shape: Shape, c: usize) -> Verdict
     requires { ⌜ BlockAt (shape .order) (shape .block) c (length (now m)) ⌝ }
+    requires { ⌜ (0 < c → 2 * shape .block ≤ length (now spare)) ⌝ }
     ensures { λ r. ⌜ BlockFactored (shape .order) (shape .block) c (now (m .entry)) r (now (m .exit)) ⌝ }
 {
-    update_by_all(m, spare, shape, c);
+    update_by_runs(m, spare, shape, c);
     let start = shape.block_start(c);
     let width = shape.block_width(c);
     factor_block(&mut m[start..], spare, c, width, shape.order - c)
@@ -348,12 +323,15 @@ fn factor_blocks_cleared(m: &mut [f64], work: &mut [f64], shape: Shape) -> Verdi
     result
 }
 
-// The blocked factor of memory in blocked order.
+// The blocked factor of memory in blocked order. With one column to a block that is packed order, and the plain factor does it.
 pub fn factor(shape: Shape, matrix: &mut [f64], work: &mut [f64]) -> CallResult
     ensures { λ r.
         ⌜ DoneAs (factorize Layout.Blocked (shape .order) (shape .block) (now (matrix .entry)) (now (work .entry))) r (now (matrix .exit))
         (now (work .exit)) ⌝ }
 {
+    if shape.block == 1 {
+        return plain_factor::factor(shape, matrix, work);
+    }
     let checks = checks::check_factor(Layout::Blocked, shape, matrix, work.len());
     if !calls::accepted(checks) {
         return calls::result(checks);

@@ -107,9 +107,9 @@ falling-part column x v at a m e t end fits same =
 -- the first len of 16 lanes loaded, worked on and stored
 pub filled-lanes :
     (m m′ panel start lanes : List Float) (x y len count : ℕ) → len ≤ 16 → ((t : ℕ) → t < len → getD start t nan ≡ getD m (y + t) nan) →
-    ((t : ℕ) → t < 16 → getD lanes t nan ≡ minusProducts (rowAt m x) (laneAt panel t) count (getD start t nan)) →
+    ((t : ℕ) → t < 16 → getD lanes t nan ≡ minusProducts (rowAt m x) (laneAt 16 panel t) count (getD start t nan)) →
     Replaced nan y len m lanes m′ →
-    Filled nan y len (λ t. minusProducts (rowAt m x) (laneAt panel t) count (getD m (y + t) nan)) m m′
+    Filled nan y len (λ t. minusProducts (rowAt m x) (laneAt 16 panel t) count (getD m (y + t) nan)) m m′
 filled-lanes m m′ panel start lanes x y len count few loaded worked filled =
-    filled-same nan y len (λ t. getD lanes t nan) (λ t. minusProducts (rowAt m x) (laneAt panel t) count (getD m (y + t) nan)) m m′
-    (λ t h. worked t (omega arith) ∙ ap (minusProducts (rowAt m x) (laneAt panel t) count) (loaded t h)) filled
+    filled-same nan y len (λ t. getD lanes t nan) (λ t. minusProducts (rowAt m x) (laneAt 16 panel t) count (getD m (y + t) nan)) m m′
+    (λ t h. worked t (omega arith) ∙ ap (minusProducts (rowAt m x) (laneAt 16 panel t) count) (loaded t h)) filled

@@ -1,19 +1,29 @@
--- What the loops over values promise, free of any matrix.
+-- What the loops over values promise. Of a matrix they know only where blocked order keeps a row.
 use Prim.Native.Nat.{ℕ, _+_, _-_, _*_, _≤_, _<_}
 use mathlib.Core.Path.{_≡_}
 use mathlib.Core.Logic.{_≢_}
 use mathlib.Core.List.{List}
 use lib.ListN.{length, getD}
 use lib.Ieee.{Float, nan, binary64, sub, mul}
+use Rattle.shape.specs.Bounds.{maxOrder, maxBlock}
+use Rattle.shape.specs.Places.{triangle, blockOf, blockedPlace}
 use Rattle.calls.specs.Arithmetic.{minusProducts}
 
 -- the values from place x on
 abbrev pub rowAt : List Float → ℕ → ℕ → Float
 rowAt m x = λ k. getD m (x + k) nan
 
--- lane t of a panel packed 16 wide
-abbrev pub laneAt : List Float → ℕ → ℕ → Float
-laneAt panel t = λ k. getD panel (16 * k + t) nan
+-- lane s of a panel: value k of it is the panel's value lanes · k + s
+abbrev pub laneAt : ℕ → List Float → ℕ → ℕ → Float
+laneAt lanes panel s = λ k. getD panel (lanes * k + s) nan
+
+-- lane s of row r of a tile
+abbrev pub tileAt : ℕ → List Float → ℕ → ℕ → Float
+tileAt lanes tile r s = getD tile (r * lanes + s) nan
+
+-- the first `len` lanes of a tile's rows are f r s
+abbrev pub TileIs : ℕ → ℕ → ℕ → (ℕ → ℕ → Float) → List Float → Type 0
+TileIs rows lanes len f tile = (r s : ℕ) → r < rows → s < len → tileAt lanes tile r s ≡ f r s
 
 -- t less the first products x(at + k)·y(k), k = 0, 1, .., of which `count` are taken
 abbrev pub risingFrom : List Float → ℕ → List Float → ℕ → Float → Float
@@ -44,3 +54,25 @@ pub record Scattered (count : ℕ) (place : ℕ → ℕ) (f : ℕ → Float) (v 
   pub size : length v′ ≡ length v
   pub inside : (s : ℕ) → s < count → getD v′ (place s) nan ≡ f s
   pub outside : (p : ℕ) → ((s : ℕ) → s < count → p ≢ place s) → getD v′ p nan ≡ getD v p nan
+
+-- m′ is m with the values f r s in a grid: `rows` rows of `len` places each, row r from y + r · stride on
+pub record GridFilled (y stride rows len : ℕ) (f : ℕ → ℕ → Float) (m m′ : List Float) : Type 0 where
+  pub size : length m′ ≡ length m
+  pub inside : (r s : ℕ) → r < rows → s < len → getD m′ (y + r * stride + s) nan ≡ f r s
+  pub outside : (p : ℕ) → ((r s : ℕ) → r < rows → s < len → p ≢ y + r * stride + s) → getD m′ p nan ≡ getD m p nan
+
+-- row i of a matrix of order h in blocked order, with block columns of b columns, that begins at place `start`
+abbrev pub runAt : List Float → ℕ → ℕ → ℕ → ℕ → ℕ → Float
+runAt m start h b i = λ k. getD m (start + blockedPlace h b i k) nan
+
+-- Rows i to i + rows − 1 of it are below its first `count` columns, which are whole block columns.
+pub record RowsBelow (start h b corner count i rows len : ℕ) : Type 0 where
+  pub order : h ≤ maxOrder
+  pub block : 0 < b
+  pub blockHigh : b ≤ maxBlock
+  pub diagonal : corner ≡ triangle b
+  pub some : 0 < count
+  pub whole : blockOf b count ≡ count
+  pub above : count ≤ i
+  pub inside : i + rows ≤ h
+  pub size : start + triangle h ≤ len

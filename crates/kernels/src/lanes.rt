@@ -5,6 +5,7 @@ ghost use lib.ListN.{length, getD};
 ghost use lib.Ieee.{nan, binary64, sub, mul};
 ghost use Rattle.calls.specs.Arithmetic.{minusProducts};
 ghost use Rattle.kernels.specs.Kernels.{Filled, Replaced, Scattered, rowAt, laneAt};
+use crate::tiles::reduce_block;
 
 // Sixteen values less the products of x[at + s] and y.
 pub fn step16(t: [f64; 16], x: &[f64], at: usize, y: f64) -> [f64; 16]
@@ -21,7 +22,7 @@ pub fn step16(t: [f64; 16], x: &[f64], at: usize, y: f64) -> [f64; 16]
 }
 
 // The first count of sixteen values, from position at on; the others are zeros.
-fn load_part16(v: &[f64], at: usize, count: usize) -> [f64; 16]
+pub fn load_part16(v: &[f64], at: usize, count: usize) -> [f64; 16]
     requires { ⌜ (at + count ≤ length (now v)) × (count ≤ 16) ⌝ }
     ensures { λ r. ⌜ ((s : ℕ) → s < count → getD r s nan ≡ getD (now (v .entry)) (at + s) nan) ⌝ }
 {
@@ -34,7 +35,7 @@ fn load_part16(v: &[f64], at: usize, count: usize) -> [f64; 16]
     values
 }
 
-fn store_part16(v: &mut [f64], at: usize, values: [f64; 16], count: usize)
+pub fn store_part16(v: &mut [f64], at: usize, values: [f64; 16], count: usize)
     requires { ⌜ (at + count ≤ length (now v)) × (count ≤ 16) ⌝ }
     ensures { λ _. ⌜ Replaced nan at count (now (v .entry)) values (now (v .exit)) ⌝ }
 {
@@ -59,33 +60,16 @@ pub fn store16(v: &mut [f64], at: usize, values: [f64; 16])
     store_part16(v, at, values, 16);
 }
 
-// Lane t less the products of the count values from place x on with column t of the panel.
-fn kernel16(start: [f64; 16], m: &[f64], x: usize, panel: &[f64], count: usize) -> [f64; 16]
-    requires { ⌜ (x + count ≤ length (now m)) × (16 * count ≤ length (now panel)) ⌝ }
-    ensures { λ r.
-        ⌜ ((t : ℕ) → t < 16 →
-        getD r t nan ≡ minusProducts (rowAt (now (m .entry)) x) (laneAt (now (panel .entry)) t) count (getD start t nan)) ⌝ }
-{
-    let mut lanes = start;
-    let mut k = 0;
-    while k < count {
-        let next = step16(lanes, panel, 16 * k, m[x + k]);
-        lanes = next;
-        k += 1;
-    }
-    lanes
-}
-
 // The 16 entries from place y on, each less the products of the count values from place x on with its column of the panel.
 pub fn update16(m: &mut [f64], panel: &[f64], x: usize, y: usize, count: usize)
     requires { ⌜ (x + count ≤ length (now m)) × (y + 16 ≤ length (now m)) × (16 * count ≤ length (now panel)) ⌝ }
     ensures { λ r.
         ⌜ Filled nan y 16
-        (λ t. minusProducts (rowAt (now (m .entry)) x) (laneAt (now (panel .entry)) t) count (getD (now (m .entry)) (y + t) nan))
+        (λ t. minusProducts (rowAt (now (m .entry)) x) (laneAt 16 (now (panel .entry)) t) count (getD (now (m .entry)) (y + t) nan))
         (now (m .entry)) (now (m .exit)) ⌝ }
 {
     let start = load16(m, y);
-    let lanes = kernel16(start, m, x, panel, count);
+    let lanes = reduce_block(start, 1, 16, m, x, 0, panel, 0, count);
     store16(m, y, lanes);
 }
 
@@ -94,22 +78,30 @@ pub fn update_part16(m: &mut [f64], panel: &[f64], x: usize, y: usize, len: usiz
     requires { ⌜ (x + count ≤ length (now m)) × (y + len ≤ length (now m)) × (len ≤ 16) × (16 * count ≤ length (now panel)) ⌝ }
     ensures { λ r.
         ⌜ Filled nan y len
-        (λ t. minusProducts (rowAt (now (m .entry)) x) (laneAt (now (panel .entry)) t) count (getD (now (m .entry)) (y + t) nan))
+        (λ t. minusProducts (rowAt (now (m .entry)) x) (laneAt 16 (now (panel .entry)) t) count (getD (now (m .entry)) (y + t) nan))
         (now (m .entry)) (now (m .exit)) ⌝ }
 {
     let start = load_part16(m, y, len);
-    let lanes = kernel16(start, m, x, panel, count);
+    let lanes = reduce_block(start, 1, 16, m, x, 0, panel, 0, count);
     store_part16(m, y, lanes, len);
 }
 
-// The count values from place `from` on become lane t of a panel.
-pub fn pack_lane(panel: &mut [f64], m: &[f64], from: usize, t: usize, count: usize)
-    requires { ⌜ (from + count ≤ length (now m)) × (16 * count ≤ length (now panel)) × (t < 16) ⌝ }
-    ensures { λ r. ⌜ Scattered count (λ k. 16 * k + t) (rowAt (now (m .entry)) from) (now (panel .entry)) (now (panel .exit)) ⌝ }
+// The count values from place `from` on become lane t of a panel, from its place `at` on.
+pub fn pack_lane(
+    panel: &mut [f64],
+    at: usize,
+    lanes: usize,
+    t: usize,
+    m: &[f64],
+    from: usize,
+    count: usize,
+)
+    requires { ⌜ (from + count ≤ length (now m)) × (at + lanes * count ≤ length (now panel)) × (t < lanes) ⌝ }
+    ensures { λ r. ⌜ Scattered count (λ k. at + lanes * k + t) (rowAt (now (m .entry)) from) (now (panel .entry)) (now (panel .exit)) ⌝ }
 {
     let mut k = 0;
     while k < count {
-        panel[16 * k + t] = m[from + k];
+        panel[at + lanes * k + t] = m[from + k];
         k += 1;
     }
 }

@@ -1,5 +1,5 @@
-// Loops over values that know nothing of a matrix: copies, and products subtracted one by one, for one value or for 8 at once; for 16 in lanes.rt.
-// Those are independent, so that the machine works on several while each keeps its order.
+// Loops over values: copies, and products subtracted one by one, for one value or for 8 at once, which are independent, so that the machine works on
+// several while each keeps its order. For 16 see lanes.rt; tiles.rt and columns.rt know besides where blocked order keeps a row.
 ghost use mathlib.Core.Path.{_≡_};
 ghost use Prim.Native.Nat.{ℕ, _+_, _≤_, _<_};
 ghost use lib.ListN.{length, getD, set};
@@ -7,14 +7,23 @@ ghost use lib.Ieee.{nan, binary64, sub, mul, div};
 ghost use Rattle.calls.specs.Arithmetic.{minusProducts};
 ghost use Rattle.kernels.specs.Kernels.{MultipleSubtracted, Filled, Replaced, Scattered, rowAt, risingFrom, fallingFrom};
 
+mod columns;
 mod lanes;
+mod tiles;
 
+pub use columns::reduce_columns;
+pub use lanes::load_part16;
 pub use lanes::load16;
 pub use lanes::pack_lane;
 pub use lanes::step16;
+pub use lanes::store_part16;
 pub use lanes::store16;
 pub use lanes::update_part16;
 pub use lanes::update16;
+pub use tiles::Run;
+pub use tiles::load_tile;
+pub use tiles::reduce_run;
+pub use tiles::store_tile;
 
 // Every value of v less that of x times y.
 pub fn subtract_multiple(v: &mut [f64], x: &[f64], y: f64)

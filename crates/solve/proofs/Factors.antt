@@ -11,8 +11,10 @@ use Rattle.shape.specs.Layouts.{Entry}
 use Rattle.shape.proofs.Columns.{block-start-split, triangle-columns, packed-place-column, packed-place-at, packed-place-lt}
 use Rattle.shape.proofs.Rows.{place-in-block-lt}
 use Rattle.shape.proofs.Blocks.{width-le, width-le-block, blocked-place-at}
+use Rattle.shape.proofs.Runs.{blocked-place-from}
+use Rattle.shape.proofs.Bijections.{blocked-bijection}
 use Rattle.calls.specs.Triangles.{entry, height, load}
-use Rattle.calls.proofs.Triangles.{entry-load}
+use Rattle.calls.proofs.Triangles.{entry-load, load-one}
 use Rattle.kernels.proofs.Parts.{getD-part}
 use Rattle.solve.specs.Substitution.{entriesAt}
 use Rattle.solve.proofs.Substitution.{Agrees}
@@ -64,3 +66,19 @@ module _ (n c : ℕ) (matrix : List Float) where
       (record { lower = omega arith; inside = h })
       (omega (arith, place-in-block-lt (n - c) w r s (width-le n b c) (omega arith) (omega arith)))
       (sym (blocked-place-at n b c r s first (omega (arith, width-le-block n b c))))
+
+  -- blocked: the columns from c on, a block column's first
+  pub run-agrees :
+      (b m w : ℕ) → 0 < b → blockOf b c ≡ c → c + w ≤ n → triangle (n - c) ≤ m →
+      Agrees n c w (load (blockedPlace n b) (height n) n matrix) (entriesAt (blockedPlace (n - c) b) (take m (drop (blockStart n c) matrix)))
+  run-agrees b m w pos first fits enough r s low le h =
+      let here : Entry (n - c) r s = record { lower = le; inside = omega arith } in
+      part-entry (blockedPlace n b) n matrix (blockStart n c) m (c + r) (c + s) (blockedPlace (n - c) b r s)
+      (record { lower = omega arith; inside = h })
+      (omega (arith, blocked-bijection (n - c) b pos .below r s here))
+      (sym (blocked-place-from n b c r s pos first here))
+
+-- blocked, with block columns of one column: packed
+pub one-column :
+    (n b : ℕ) (matrix : List Float) → b ≡ 1 → load (packedPlace n) (height n) n matrix ≡ load (blockedPlace n b) (height n) n matrix
+one-column n b matrix one = rw one (sym (load-one n matrix))

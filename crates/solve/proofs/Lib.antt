@@ -8,5 +8,6 @@ pub mod BlockPlaces
 pub mod BlockColumns
 pub mod Apart
 pub mod BlockTurns
+pub mod RunTurns
 pub mod RightSides
 pub mod Outcomes

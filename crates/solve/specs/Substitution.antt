@@ -1,13 +1,15 @@
--- What is promised of one block column in a substitution. Rows and columns count from its first; h is the number of its rows and w that of its
--- columns, and its first w rows are its triangle. `coefficient r s` is the factor's entry in row r and column s.
+-- What is promised of one block column in a substitution, or of a run of them. Rows and columns count from its first; h is the number of its rows and
+-- w that of its columns, and its first w rows are its triangle. `coefficient r s` is the factor's entry in row r and column s.
 use Prim.Native.Nat.{ℕ, _+_, _-_, _*_, _≤_, _<_}
 use mathlib.Core.Path.{_≡_}
+use mathlib.Core.Logic.{_⊎_}
 use mathlib.Core.List.{List}
 use lib.ListN.{length, getD}
 use lib.Ieee.{Float, nan, binary64, sub, mul, div}
 use Rattle.shape.specs.Bounds.{maxOrder}
-use Rattle.shape.specs.Places.{blockStart}
+use Rattle.shape.specs.Places.{triangle, blockOf, blockStart, width}
 use Rattle.calls.specs.Arithmetic.{minusProducts}
+use Rattle.kernels.specs.declared.tiles.Run.{Run}
 use Rattle.kernels.specs.Kernels.{Scattered}
 
 -- the entries that a memory holds at the places of a layout
@@ -21,6 +23,32 @@ pub record BlockColumn (h w : ℕ) (part work : List Float) : Type 0 where
   pub fits : w ≤ h
   pub values : blockStart h w ≤ length part
   pub rows : length work ≡ h
+
+-- the first `rows` rows of a factor in blocked memory, which end with a block column, and the right-hand side's rows beside them
+pub record BlockRows (n b rows : ℕ) (matrix work : List Float) : Type 0 where
+  pub order : n ≤ maxOrder
+  pub block : 0 < b
+  pub fits : rows ≤ n
+  pub whole : (rows ≡ n) ⊎ (blockOf b rows ≡ rows)
+  pub values : triangle n ≤ length matrix
+  pub size : length work ≡ rows
+
+-- a run: as many whole block columns of blocked memory as sixteen columns hold, or the last ones, and the right-hand side's rows beside it
+pub record BlockRun (h b w : ℕ) (part work : List Float) : Type 0 where
+  pub order : h ≤ maxOrder
+  pub low : 1 < b
+  pub high : b < 16
+  pub columns : w ≡ width h (blockOf b 16) 0
+  pub values : triangle h ≤ length part
+  pub rows : length work ≡ h
+
+-- its numbers, for the kernels
+pub record RunIs (h b w : ℕ) (run : Run) : Type 0 where
+  pub start : run .start ≡ 0
+  pub order : run .order ≡ h
+  pub block : run .block ≡ b
+  pub corner : run .corner ≡ triangle b
+  pub columns : run .columns ≡ w
 
 -- v′ is v but for the rows from `from` on and before `to`, where it is `value r`
 pub record RowsReplaced (value : ℕ → Float) (from to : ℕ) (v v′ : List Float) : Type 0 where

@@ -1,4 +1,5 @@
 // Both substitutions on a blocked factor, block column by block column: h rows, w columns, each row contiguous, its part of memory beginning with it.
+// Narrow block columns are taken several at a time in runs.rt.
 ghost use mathlib.Core.Path.{_≡_};
 ghost use Prim.Native.Nat.{ℕ, _+_, _-_, _*_, _≤_, _<_};
 ghost use lib.ListN.{length, getD};
@@ -7,7 +8,9 @@ ghost use Rattle.shape.specs.Bounds.{maxOrder};
 ghost use Rattle.shape.specs.Places.{triangle, placeInBlock, blockedPlace};
 ghost use Rattle.calls.specs.Triangles.{height, load};
 ghost use Rattle.calls.specs.Arithmetic as Arithmetic;
-ghost use Rattle.solve.specs.Substitution.{entriesAt, BlockColumn, TriangleForward, RowsApart, RowsSubtracted, ForwardDone, RowTaken, ColumnsSubtracted, ProductsSubtracted, BackwardDone};
+ghost use Rattle.solve.specs.Substitution.{entriesAt, BlockColumn, BlockRows, TriangleForward, RowsApart, RowsSubtracted, ForwardDone, RowTaken, ColumnsSubtracted, ProductsSubtracted, BackwardDone};
+use crate::plain;
+use crate::runs;
 use kernels::gather8;
 use kernels::load16;
 use kernels::scatter8;
@@ -17,9 +20,6 @@ use kernels::subtract_multiple;
 use kernels::subtract_rising;
 use kernels::subtract_rising8;
 use shape::Shape;
-
-// Rows of a tile: of 64 columns it has 32 KB.
-const TILE: usize = 64;
 
 // The first w rows are finished.
 fn forward_triangle(h: usize, w: usize, part: &[f64], work: &mut [f64])
@@ -107,6 +107,21 @@ fn forward_block(h: usize, w: usize, part: &[f64], work: &mut [f64])
     forward_rows(h, w, part, work);
 }
 
+// The first `rows` rows, which end with a block column, are finished.
+pub fn forward_blocks(shape: Shape, rows: usize, matrix: &[f64], work: &mut [f64])
+    requires { ⌜ BlockRows (shape .order) (shape .block) rows (now matrix) (now work) ⌝ }
+    ensures { λ _. ⌜ now (work .exit) ≡ Arithmetic.forward rows (load (blockedPlace (shape .order) (shape .block)) (height (shape .order)) (shape .order) (now (matrix .entry))) (now (work .entry)) ⌝ }
+{
+    let mut c = 0;
+    while c < rows {
+        let at = shape.block_start(c);
+        let w = shape.block_width(c);
+        forward_block(rows - c, w, &matrix[at..], &mut work[c..]);
+        c += w;
+    }
+}
+
+// Block columns of fewer than sixteen columns are taken in runs; those of one column are packed memory.
 pub fn forward(shape: Shape, matrix: &[f64], work: &mut [f64])
     requires { ⌜ shape .order ≤ maxOrder ⌝ }
     requires { ⌜ 0 < shape .block ⌝ }
@@ -115,12 +130,13 @@ pub fn forward(shape: Shape, matrix: &[f64], work: &mut [f64])
     ensures { λ _. ⌜ now (work .exit) ≡ Arithmetic.forward (shape .order) (load (blockedPlace (shape .order) (shape .block)) (height (shape .order)) (shape .order) (now (matrix .entry))) (now (work .entry)) ⌝ }
 {
     let n = shape.order;
-    let mut c = 0;
-    while c < n {
-        let at = shape.block_start(c);
-        let w = shape.block_width(c);
-        forward_block(n - c, w, &matrix[at..], &mut work[c..]);
-        c += w;
+    let b = shape.block;
+    if 16 <= b {
+        forward_blocks(shape, n, matrix, work);
+    } else if b == 1 {
+        plain::forward(n, matrix, work);
+    } else {
+        runs::forward(shape, matrix, work);
     }
 }
 
@@ -203,12 +219,13 @@ fn backward_tile(h: usize, w: usize, first: usize, end: usize, part: &[f64], wor
     }
 }
 
-// The first row of the tile that ends before row `end`.
+// The first row of the tile that ends before row `end`. Its rows have some 1,024 values, 8 KB.
 fn tile_start(w: usize, end: usize) -> usize
-    requires { ⌜ w < end ⌝ }
+    requires { ⌜ (0 < w) × (w < end) ⌝ }
     ensures { λ r. ⌜ (w ≤ r) × (r < end) ⌝ }
 {
-    if end - w < TILE { w } else { end - TILE }
+    let rows = 1 + 1023 / w;
+    if end - w < rows { w } else { end - rows }
 }
 
 // The products of all rows below the first w, a tile of them after another from the last up, so that a tile is still in the cache for its next columns.
@@ -249,6 +266,21 @@ fn backward_block(h: usize, w: usize, part: &[f64], work: &mut [f64])
     backward_triangle(h, w, part, work);
 }
 
+// The first `rows` rows, which end with a block column, are finished.
+pub fn backward_blocks(shape: Shape, rows: usize, matrix: &[f64], work: &mut [f64])
+    requires { ⌜ BlockRows (shape .order) (shape .block) rows (now matrix) (now work) ⌝ }
+    ensures { λ _. ⌜ now (work .exit) ≡ Arithmetic.backward rows (load (blockedPlace (shape .order) (shape .block)) (height (shape .order)) (shape .order) (now (matrix .entry))) (now (work .entry)) ⌝ }
+{
+    let mut c = rows;
+    while 0 < c {
+        let first = shape.block_of(c - 1);
+        let at = shape.block_start(first);
+        let w = shape.block_width(first);
+        backward_block(rows - first, w, &matrix[at..], &mut work[first..]);
+        c = first;
+    }
+}
+
 pub fn backward(shape: Shape, matrix: &[f64], work: &mut [f64])
     requires { ⌜ shape .order ≤ maxOrder ⌝ }
     requires { ⌜ 0 < shape .block ⌝ }
@@ -257,12 +289,12 @@ pub fn backward(shape: Shape, matrix: &[f64], work: &mut [f64])
     ensures { λ _. ⌜ now (work .exit) ≡ Arithmetic.backward (shape .order) (load (blockedPlace (shape .order) (shape .block)) (height (shape .order)) (shape .order) (now (matrix .entry))) (now (work .entry)) ⌝ }
 {
     let n = shape.order;
-    let mut c = n;
-    while 0 < c {
-        let first = shape.block_of(c - 1);
-        let at = shape.block_start(first);
-        let w = shape.block_width(first);
-        backward_block(n - first, w, &matrix[at..], &mut work[first..]);
-        c = first;
+    let b = shape.block;
+    if 16 <= b {
+        backward_blocks(shape, n, matrix, work);
+    } else if b == 1 {
+        plain::backward(n, matrix, work);
+    } else {
+        runs::backward(shape, matrix, work);
     }
 }

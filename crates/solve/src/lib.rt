@@ -6,6 +6,7 @@ ghost use Rattle.calls.specs.Calls.{SolvedAs};
 mod blocked;
 mod plain;
 mod rhs;
+mod runs;
 
 use calls::CallResult;
 use calls::Layout;

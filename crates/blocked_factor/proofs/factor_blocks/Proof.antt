@@ -63,7 +63,7 @@ loop-less : tie.Need-loop-less Inv-loop μ-loop
 loop-less c =
     let a = c .before .before .before .before .before .before .before .before .before .before .before .before .before .before .args in
     let now = here (c .before .before .before .before .before .before .before .before .before .before) in
-    omega (arith, c .block-width .ensures, inside-le now, width-pos (a .shape .order) (a .shape .block) (c .before .before .before .before .before .before .before .before .before .before .before .loop .c) (now .block) (now .inside))
+    omega (arith, c .block-width .ensures, inside-le now, width-pos (a .shape .order) (a .shape .block) (c .before .before .before .before .before .before .before .before .before .before .before .loop .c) (omega (arith, now .block)) (now .inside))
 
 loop-again : tie.Need-loop-again Inv-loop μ-loop
 loop-again c =

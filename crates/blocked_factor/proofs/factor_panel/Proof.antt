@@ -2,7 +2,6 @@
 use Prim.Native.Nat.{_+_}
 use native.Mathlib.Omega.{arith}
 use Rattle.blocked_factor.proofs.BlockRows.{row-mono}
-use Rattle.blocked_factor.proofs.Panels.{own-source}
 use Rattle.blocked_factor.proofs.Finishing.{panel-finished}
 use borrow.Author.Needs.{needs}
 use Rattle.blocked_factor.proofs.factor_panel.Statement.{statement}
@@ -11,8 +10,7 @@ use Rattle.blocked_factor.proofs.factor_panel.Tie as tie
 update-panel-requires : tie.Need-update-panel-requires
 update-panel-requires c κs =
     let pre = c .before .before .before .before .pre in
-    let a = c .before .before .before .before .args in
-    (own-source _ (a .width) (a .rows) (a .s0) (a .g) (omega (arith, pre)) (omega (arith, pre)) (omega (arith, pre)) (omega (arith, pre)), pre .1)
+    (record { order = omega (arith, pre); wide = omega (arith, pre); tall = omega (arith, pre); room = omega (arith, pre) }, pre .1)
 
 add-finish-triangle : tie.Need-add-finish-triangle
 add-finish-triangle c = search needs

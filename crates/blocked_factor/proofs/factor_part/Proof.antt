@@ -16,14 +16,14 @@ use Rattle.blocked_factor.proofs.factor_part.Tie as tie
 
 -- the block column lies in the memory
 room :
-    (c : tie.After-update-by-all) →
+    (c : tie.After-update-by-runs) →
     let a = c .before .before .before .before .before .args in
     let w = width (a .shape .order) (a .shape .block) (a .c) in
-    blockStart (a .shape .order) (a .c) + rowStart w (a .shape .order - a .c) ≤ length (c .update-by-all .last .0)
-room c = omega (arith, block-room (c .before .before .before .before .before .pre), c .update-by-all .ensures .kept)
+    blockStart (a .shape .order) (a .c) + rowStart w (a .shape .order - a .c) ≤ length (c .update-by-runs .last .0)
+room c = omega (arith, block-room (c .before .before .before .before .before .pre .0), c .update-by-runs .ensures .kept)
 
-update-by-all-requires : tie.Need-update-by-all-requires
-update-by-all-requires c κs = search needs
+update-by-runs-requires : tie.Need-update-by-runs-requires
+update-by-runs-requires c κs = search needs
 
 block-start-requires : tie.Need-block-start-requires
 block-start-requires c κs = search needs
@@ -32,7 +32,7 @@ block-width-requires : tie.Need-block-width-requires
 block-width-requires c κs = search needs
 
 mul-factor-block : tie.Need-mul-factor-block
-mul-factor-block c = omega (arith, c .before .block-start .ensures, room (c .before .before .before .before .before .before), c .before .before .before .before .before .before .update-by-all .ensures .kept, c .before .before .before .before .before .before .before .before .before .before .before .good)
+mul-factor-block c = omega (arith, c .before .block-start .ensures, room (c .before .before .before .before .before .before), c .before .before .before .before .before .before .update-by-runs .ensures .kept, c .before .before .before .before .before .before .before .before .before .before .before .good)
 
 sub-factor-block : tie.Need-sub-factor-block
 sub-factor-block c = omega (arith, c .before .block-start .ensures, room (c .before .before .before .before .before .before))
@@ -50,12 +50,12 @@ factor-block-requires : tie.Need-factor-block-requires
 factor-block-requires c κs =
     let entry = c .before .before .before .before .before .before .before .before .before .before .before .before .before .before in
     let a = entry .args in
-    let m = c .before .before .before .before .before .before .before .before .before .update-by-all .last .0 in
+    let m = c .before .before .before .before .before .before .before .before .before .update-by-runs .last .0 in
     let start = blockStart (a .shape .order) (a .c) in
     let inside = room (c .before .before .before .before .before .before .before .before .before) in
     rw (c .before .before .before .before .block-start .ensures, c .before .before .before .block-width .ensures) (
       width-le (a .shape .order) (a .shape .block) (a .c),
-      omega (arith, entry .pre .order, entry .pre .inside),
+      omega (arith, entry .pre .0 .order, entry .pre .0 .inside),
       omega (arith, length-part nan start (length m - start) m (omega arith)),
     )
 
@@ -67,7 +67,7 @@ same-length-2 c = search needs
 
 returns : tie.Need-returns
 returns c =
-    let update = c .before .before .before .before .before .before .before .before .before .before .before .before .before .before .update-by-all in
+    let update = c .before .before .before .before .before .before .before .before .before .before .before .before .before .before .update-by-runs in
     let block = c .before .before .before .before .factor-block in
     let a = c .before .before .before .before .before .before .before .before .before .before .before .before .before .before .before .before .before .before .before .args in
     let m = update .last .0 in
@@ -75,7 +75,7 @@ returns c =
     let inside = room (c .before .before .before .before .before .before .before .before .before .before .before .before .before .before) in
     let factored = rw (c .before .before .before .before .before .before .before .before .before .block-start .ensures, c .before .before .before .before .before .before .before .before .block-width .ensures) at (block .ensures) in
     rw (c .before .before .before .before .before .before .before .before .before .block-start .ensures)
-    (block-factored (c .before .before .before .before .before .before .before .before .before .before .before .before .before .before .before .before .before .before .before .pre) (update .ensures) factored
+    (block-factored (c .before .before .before .before .before .before .before .before .before .before .before .before .before .before .before .before .before .before .before .pre .0) (update .ensures) factored
     (part-replaced nan start (length m - start) m (block .last .0) (omega arith)
     (factored .kept ∙ length-part nan start (length m - start) m (omega arith))))
 
@@ -83,7 +83,7 @@ pub factor-part-spec : {M : Type 1} → statement M
 factor-part-spec =
     tie.close
     (tie.spec
-    update-by-all-requires
+    update-by-runs-requires
     block-start-requires
     block-width-requires
     mul-factor-block

@@ -13,7 +13,7 @@ use Rattle.kernels.specs.Kernels.{Replaced}
 use Rattle.kernels.proofs.Parts.{length-part, part-replaced}
 use Rattle.blocked_factor.specs.BlockColumns.{rowStart}
 use Rattle.blocked_factor.proofs.EarlierBlocks.{block-room}
-use Rattle.blocked_factor.proofs.BlockParts.{size-le, done-accepted, done-refused}
+use Rattle.blocked_factor.proofs.BlockParts.{size-le, spare-two, done-accepted, done-refused}
 use Rattle.blocked_factor.proofs.factor_step.Statement.{statement}
 use Rattle.blocked_factor.proofs.factor_step.Tie as tie
 
@@ -78,7 +78,23 @@ part-factor-part-end : tie.Need-part-factor-part-end
 part-factor-part-end c = search needs
 
 factor-part-requires : tie.Need-factor-part-requires
-factor-part-requires c κs = search needs
+factor-part-requires c κs =
+    let saved = c .before .before .before .before in
+    let work = saved .copy-part .last .1 .1 .0 in
+    let size = saved .before .before .before .place-in-block .result in
+    let pre = saved .before .before .before .before .before .before .before .before .before .pre in
+    let place = places (saved .before .before .before) in (
+      pre .0,
+      λ later.
+          omega (
+            arith,
+            length-part nan size (length work - size) work (omega (arith, room saved)),
+            place .1,
+            pre .1,
+            saved .copy-part .ensures .size,
+            spare-two (pre .0) later,
+          ),
+    )
 
 accepted-requires : tie.Need-accepted-requires
 accepted-requires c κs = search needs

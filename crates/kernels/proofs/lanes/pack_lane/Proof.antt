@@ -3,39 +3,43 @@ use Prim.Native.Nat.{_+_, _-_, _*_, _≤_}
 use native.Mathlib.Omega.{arith}
 use mathlib.Core.Path.{_≡_, refl}
 use Rattle.kernels.specs.Kernels.{rowAt, Scattered}
+use Rattle.kernels.proofs.Grids.{lane-end}
 use Rattle.kernels.proofs.Loops.{scattered-none, scattered-next}
 use Rattle.kernels.proofs.lanes.pack_lane.Statement.{statement}
 use Rattle.kernels.proofs.lanes.pack_lane.Tie as tie
 
 abbrev Inv-loop : tie.InvT-loop
-Inv-loop panel₀ m from t count k₀ panel k = (k ≤ count) × Scattered k (λ q. 16 * q + t) (rowAt m from) panel₀ panel
+Inv-loop panel₀ at lanes t m from count k₀ panel k = (k ≤ count) × Scattered k (λ q. at + lanes * q + t) (rowAt m from) panel₀ panel
 
 abbrev μ-loop : tie.MeasureT-loop
-μ-loop panel₀ m from t count k₀ panel k = count - k
+μ-loop panel₀ at lanes t m from count k₀ panel k = count - k
 
 loop-holds : tie.Need-loop-holds Inv-loop μ-loop
 loop-holds c = (omega arith, scattered-none _ _ _)
 
 add-panel : tie.Need-add-panel Inv-loop μ-loop
-add-panel c = omega arith
+add-panel c = omega (arith, lane-end (c .before .before .args .lanes) (c .before .loop .k) (c .before .before .args .count) (c .loop-test .taken), c .before .loop .inv .1 .size)
 
 mul-panel : tie.Need-mul-panel Inv-loop μ-loop
-mul-panel c = omega arith
+mul-panel c = omega (arith, lane-end (c .before .before .args .lanes) (c .before .loop .k) (c .before .before .args .count) (c .loop-test .taken), c .before .loop .inv .1 .size)
 
 shared-slice-read-panel : tie.Need-shared-slice-read-panel Inv-loop μ-loop
-shared-slice-read-panel c = omega arith
+shared-slice-read-panel c = omega (arith, lane-end (c .before .before .before .args .lanes) (c .before .before .loop .k) (c .before .before .before .args .count) (c .before .loop-test .taken), c .before .before .loop .inv .1 .size)
 
 mul-panel-2 : tie.Need-mul-panel-2 Inv-loop μ-loop
-mul-panel-2 c = omega arith
+mul-panel-2 c = omega (arith, lane-end (c .before .before .before .args .lanes) (c .before .before .loop .k) (c .before .before .before .args .count) (c .before .loop-test .taken), c .before .before .loop .inv .1 .size)
 
 add-panel-2 : tie.Need-add-panel-2 Inv-loop μ-loop
-add-panel-2 c = omega arith
+add-panel-2 c = omega (arith, lane-end (c .before .before .before .args .lanes) (c .before .before .loop .k) (c .before .before .before .args .count) (c .before .loop-test .taken), c .before .before .loop .inv .1 .size)
+
+add-panel-3 : tie.Need-add-panel-3 Inv-loop μ-loop
+add-panel-3 c = omega (arith, lane-end (c .before .before .before .args .lanes) (c .before .before .loop .k) (c .before .before .before .args .count) (c .before .loop-test .taken), c .before .before .loop .inv .1 .size)
 
 mul-panel-3 : tie.Need-mul-panel-3 Inv-loop μ-loop
-mul-panel-3 c = omega (arith, c .before .before .loop .inv .1 .size)
+mul-panel-3 c = omega (arith, lane-end (c .before .before .before .args .lanes) (c .before .before .loop .k) (c .before .before .before .args .count) (c .before .loop-test .taken), c .before .before .loop .inv .1 .size)
 
 slice-write-panel : tie.Need-slice-write-panel Inv-loop μ-loop
-slice-write-panel c = omega (arith, c .before .before .loop .inv .1 .size)
+slice-write-panel c = omega (arith, lane-end (c .before .before .before .args .lanes) (c .before .before .loop .k) (c .before .before .before .args .count) (c .before .loop-test .taken), c .before .before .loop .inv .1 .size)
 
 add-k : tie.Need-add-k Inv-loop μ-loop
 add-k c = omega arith
@@ -45,8 +49,10 @@ loop-less c = omega arith
 
 loop-again : tie.Need-loop-again Inv-loop μ-loop
 loop-again c =
+    let a = c .before .before .before .args in
     let l = c .before .before .loop in
-    (omega arith, scattered-next _ _ _ (l .k) (l .panel) _ (omega arith) (λ s h e. omega arith) (l .inv .1) refl)
+    let end = lane-end (a .lanes) (l .k) (a .count) (c .before .loop-test .taken) in
+    (omega arith, scattered-next _ _ _ (l .k) (l .panel) _ (omega arith) (λ s h e. omega (arith, lane-end (a .lanes) s (l .k) h)) (l .inv .1) refl)
 
 same-length : tie.Need-same-length Inv-loop μ-loop
 same-length c = c .before .loop .inv .1 .size
@@ -68,6 +74,7 @@ pack-lane-spec =
     shared-slice-read-panel
     mul-panel-2
     add-panel-2
+    add-panel-3
     mul-panel-3
     slice-write-panel
     add-k
