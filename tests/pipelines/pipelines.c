@@ -9,6 +9,8 @@ static size_t needed(size_t n, size_t b) { return n * (n < b ? n : b); }
 
 static bool same_result(metsovary_result a, metsovary_result b) { return a.code == b.code && a.place == b.place && to_bits(a.value) == to_bits(b.value); }
 
+enum { KINDS = 6 };
+
 /* a packed matrix: definite (kind 0), or with a weak, a negative or an overflowing part somewhere */
 static void make(memory a, size_t n, unsigned kind) {
     metsovary_shape shape = {n, 1};
@@ -26,13 +28,16 @@ static void make(memory a, size_t n, unsigned kind) {
         }
 }
 
-/* both pipelines on memories of their own; each call is compared with the reference as well where that is wanted */
-static void both(size_t n, size_t b, size_t m, unsigned kind, bool with_reference) {
-    metsovary_shape shape = {n, b};
-    memory a = memory_new(triangle(n)), x = memory_new(n * m), w = memory_new(n), v = memory_new(needed(n, b) + 3);
-    make(a, n, kind);
+static void fill_right_sides(memory x, unsigned kind) {
     for (size_t k = 0; k < x.length; k++) x.values[k] = kind == 0 || random_bits() % 50 ? random_unit() : ldexp(random_unit(), (int)(random_bits() % 2000) - 1000);
     if (x.length && kind && random_bits() % 30 == 0) x.values[random_bits() % x.length] = any_nan();
+}
+
+/* Both pipelines on memories of their own, from a packed matrix and m right-hand sides, which are freed; each call is compared with the reference as well where
+ * that is wanted. The factors' result. */
+static metsovary_result both(metsovary_shape shape, size_t m, memory a, memory x, bool with_reference) {
+    size_t n = shape.order, b = shape.block;
+    memory w = memory_new(n), v = memory_new(needed(n, b) + 3);
     fill_any(w);
     fill_any(v);
     memory c = memory_copy(a), z = memory_copy(x);
@@ -56,7 +61,6 @@ static void both(size_t n, size_t b, size_t m, unsigned kind, bool with_referenc
             metsovary_blocked_to_packed(shape, c.values, c.length, v.values, v.length);
         }
     }
-    expect(kind || f.code == 0, "n %zu b %zu: a definite matrix is refused: %llu", n, b, (unsigned long long)f.code);
     expect(same_result(f, g), "n %zu b %zu: the factors' results differ: %llu %llu, %llu %llu", n, b, (unsigned long long)f.code, (unsigned long long)f.place,
         (unsigned long long)g.code, (unsigned long long)g.place);
     if (f.code == 0) {
@@ -70,6 +74,74 @@ static void both(size_t n, size_t b, size_t m, unsigned kind, bool with_referenc
     memory_free(v);
     memory_free(c);
     memory_free(z);
+    return f;
+}
+
+static void both_of_kind(size_t n, size_t b, size_t m, unsigned kind, bool with_reference) {
+    memory a = memory_new(triangle(n)), x = memory_new(n * m);
+    make(a, n, kind);
+    fill_right_sides(x, kind);
+    metsovary_result f = both((metsovary_shape){n, b}, m, a, x, with_reference);
+    expect(kind || f.code == 0, "n %zu b %zu: a definite matrix is refused: %llu", n, b, (unsigned long long)f.code);
+}
+
+/* a definite matrix, and one of another kind */
+static void two_of(size_t n, size_t b) {
+    both_of_kind(n, b, 2, 0, true);
+    both_of_kind(n, b, 2, 1 + random_bits() % (KINDS - 1), true);
+}
+
+/* ---- every block length to 40, and those beside the multiples of 16 and at the bounds ---- */
+
+static const size_t larger[] = {47, 48, 63, 64, 65, 100, 127, 128, 129, 199, 200};
+enum { BLOCKS = 40 + sizeof larger / sizeof *larger };
+
+static size_t block_length(size_t k) { return k < 40 ? k + 1 : larger[k - 40]; }
+
+/* 10 or 11 in this column of a matrix that is definite without it, all of whose values take part. Under 11 an infinity stands
+ * before the other columns of its block column. */
+static void refused_factor(size_t n, size_t b, uint64_t code, size_t column) {
+    metsovary_shape shape = {n, b};
+    memory a = memory_new(triangle(n));
+    make(a, n, 0);
+    a.values[place(PACKED, shape, column, column)] = code == 10 ? -1.0 : ldexp(1, -1000);
+    if (code == 11) {
+        for (size_t k = 0; k < column; k++) a.values[place(PACKED, shape, column, k)] = 0.0;
+        a.values[place(PACKED, shape, n - 1, column)] = ldexp(1, 600);
+    }
+    metsovary_result r = both(shape, 0, a, memory_new(0), true);
+    expect(r.code == code && r.place == column, "n %zu b %zu: %llu in column %zu: %llu %llu", n, b, (unsigned long long)code, column, (unsigned long long)r.code,
+        (unsigned long long)r.place);
+}
+
+/* 12 in the second of three right-hand sides, by y or by x in this column */
+static void refused_solution(size_t n, size_t b, bool by_y, size_t column) {
+    metsovary_shape shape = {n, b};
+    memory a = memory_new(triangle(n)), x = memory_new(3 * n), w = memory_new(n + 1);
+    for (size_t k = 0; k < a.length; k++) a.values[k] = random_unit();
+    for (size_t j = 0; j < n; j++) a.values[place(BLOCKED, shape, j, j)] = j == column ? ldexp(1, -200) : (double)n;
+    fill_right_sides(x, 0);
+    x.values[n + column] = ldexp(1, by_y ? 900 : 700);
+    fill_any(w);
+    metsovary_result r = compare_solve(BLOCKED, shape, 3, a, x, w);
+    expect(r.code == 12 && r.place == 1, "n %zu b %zu: 12 by column %zu: %llu %llu", n, b, column, (unsigned long long)r.code, (unsigned long long)r.place);
+    memory_free(a);
+    memory_free(x);
+    memory_free(w);
+}
+
+static void refused_column(size_t n, size_t b, size_t column) {
+    refused_factor(n, b, 10, column);
+    if (column + 1 < n) refused_factor(n, b, 11, column);
+    refused_solution(n, b, true, column);
+    refused_solution(n, b, false, column);
+}
+
+/* 10 to 12 in columns from the first to the last, with a last block column that is narrower */
+static void refused_columns(size_t b) {
+    size_t n = (b < 16 ? 18 : b <= 40 ? 3 : 1) * b + b / 2 + 1, step = b <= 40 ? 1 + n / 60 : n / 6;
+    for (size_t column = 0; column + 1 < n; column += step) refused_column(n, b, column);
+    refused_column(n, b, n - 1);
 }
 
 /* 10 in column p and 11 in column q of one matrix: the lower of the two decides */
@@ -134,12 +206,21 @@ static void blocked_refusals(size_t n, size_t b) {
 }
 
 int main(void) {
-    group("both pipelines, every n to 40, every b to 45");
-    for (size_t n = 0; n <= 40; n++)
-        for (size_t b = 1; b <= 45; b++) both(n, b, (n + b) % 4, random_bits() % 6, true);
+    group("both pipelines, every n to 80, every b to 40 and some to 200, every kind");
+    for (size_t n = 0; n <= 80; n++)
+        for (size_t k = 0; k < BLOCKS; k++)
+            for (unsigned kind = 0; kind < KINDS; kind++) both_of_kind(n, block_length(k), (n + k + kind) % 4, kind, true);
+    group("both pipelines, n 150, 263 and 400, every b to 40 and some to 200");
+    for (size_t k = 0; k < BLOCKS; k++) {
+        two_of(150, block_length(k));
+        two_of(263, block_length(k));
+        two_of(400, block_length(k));
+    }
     group("both pipelines, some n to 600, some b to 200");
     for (size_t n = 47; n <= 600; n += 79)
-        for (size_t b = 1; b <= 200; b += 1 + random_bits() % 60) both(n, b, 2, random_bits() % 6, n < 300);
+        for (size_t b = 1; b <= 200; b += 1 + random_bits() % 60) both_of_kind(n, b, 2, random_bits() % KINDS, n < 300);
+    group("10, 11 and 12 in columns from the first to the last, every b to 40 and some to 200");
+    for (size_t k = 0; k < BLOCKS; k++) refused_columns(block_length(k));
     group("10 and 11 in every pair of columns");
     for (size_t n = 1; n <= 9; n++)
         for (size_t b = 1; b <= 10; b++)
@@ -169,8 +250,9 @@ int main(void) {
     expect(metsovary_factor_blocked(empty, NULL, 0, NULL, 0).code == 0, "blocked factor");
     expect(metsovary_solve_plain(empty, 3, NULL, 0, NULL, 0, NULL, 0).code == 0, "plain solver");
     expect(metsovary_solve_blocked(empty, 3, NULL, 0, NULL, 0, NULL, 0).code == 0, "blocked solver");
-    group("both pipelines, n 4000, b 64 and 200");
-    both(4000, 64, 2, 0, false);
-    both(4000, 200, 1, 0, false);
+    group("both pipelines, n 4000, b 3, 64 and 200");
+    both_of_kind(4000, 3, 1, 0, false);
+    both_of_kind(4000, 64, 2, 0, false);
+    both_of_kind(4000, 200, 1, 0, false);
     return finish();
 }

@@ -43,7 +43,7 @@ int main(void) {
     there_and_back(4000, 200);
     group("rearranging, middling shapes");
     for (size_t n = 97; n <= 600; n += 103)
-        for (size_t b = 1; b <= 200; b += 33) there_and_back(n, b);
+        for (size_t b = 1; b <= 200; b += 1 + b / 3) there_and_back(n, b);
     group("refusals of the rearrangers");
     for (size_t n = 1; n <= 12; n++)
         for (size_t b = 1; b <= 14; b++) {
