@@ -1,10 +1,11 @@
 /* Times the engine's calls, their peers in the reference LAPACK and in OpenBLAS, memcpy, and a loop at the processor's peak: in one process, on the same values,
  * in interleaved rounds.
  *
- *   OPENBLAS_CORETYPE=Prescott OPENBLAS_NUM_THREADS=1 bench LIBOPENBLAS [N..]
+ *   OPENBLAS_CORETYPE=Prescott OPENBLAS_NUM_THREADS=1 bench LIBOPENBLAS BLOCKS [N..]
  *
- * measures the orders 500, 1,000 and 2,000 and each N, and prints a line for each subject: order, who, what, the least processor time of a call in seconds, and
- * the core type. LIBOPENBLAS is the path of libopenblas.so.0. 100 right-hand sides are solved for at orders up to 1,000 and at each N. */
+ * measures the orders 500, 1,000 and 2,000 and each N, and prints a line for each subject: order, who, what with its block length and its number of right-hand
+ * sides where it has them (solve_blocked_64_100), the least processor time of a call in seconds, and the core type. LIBOPENBLAS is the path of
+ * libopenblas.so.0. The calls that work by blocks are measured at block length 64, and at orders 1,000 and 2,000 at those of BLOCKS (16,32, or nothing) too. */
 #define _GNU_SOURCE
 #include <dlfcn.h>
 #include <emmintrin.h>
@@ -16,7 +17,7 @@
 
 #include "../include/metsovary.h"
 
-enum { BLOCK = 64, MAX_BLOCK = 200, MANY = 100, MAX_ORDER = 4000 };
+enum { MAX_BLOCK = 200, MANY = 100, MAX_ORDER = 4000 };
 static const double ROUND_SECONDS = 0.02; /* a short call is repeated in a round until it has used this much */
 
 /* Other work on the machine slows single rounds, so that the least time wants many; large orders take long. */
@@ -80,15 +81,16 @@ static void load_openblas(const char *path) {
 
 /* ---- operands ---- */
 
-static int n;
+static int n, block, sides;                           /* the order; the subject's block length and number of right-hand sides, 0 where it has none */
 static size_t length;
 static double *original, *matrix, *full;              /* the packed matrix; what a call works on, as a triangle or as a square */
 static double *factor, *blocked_factor;               /* of the matrix, by the engine */
+static int factor_block;                              /* the block length of the blocked one */
 static double *right_sides, *solutions, *x, *work;    /* MANY right-hand sides, their solutions by the engine; what a solver works on */
 
-static metsovary_shape shape(int block) { return (metsovary_shape){(uint64_t)n, (uint64_t)block}; }
-static size_t block_work(int block) { return (size_t)n * (size_t)(n < block ? n : block); }
-static size_t rhs_length(int m) { return (size_t)n * (size_t)m; }
+static metsovary_shape shape(void) { return (metsovary_shape){(uint64_t)n, (uint64_t)block}; }
+static size_t block_work(void) { return (size_t)n * (size_t)(n < block ? n : block); }
+static size_t rhs_length(void) { return (size_t)n * (size_t)sides; }
 
 static void accept(const char *call, metsovary_result r) {
     if (r.code != 0) die(call, "refused");
@@ -115,22 +117,20 @@ static double random_unit(void) {
 
 /* The matrix has n on its diagonal and values between -1 and 1 below it, so it is positive definite. */
 static void make_operands(int order) {
-    n = order;
+    n = order, block = MAX_BLOCK, sides = MANY, factor_block = 0;
     length = (size_t)n * (size_t)(n + 1) / 2;
     original = values(length), matrix = values(length), full = values((size_t)n * (size_t)n);
     factor = values(length), blocked_factor = values(length);
-    right_sides = values(rhs_length(MANY)), solutions = values(rhs_length(MANY)), x = values(rhs_length(MANY)), work = values(block_work(MAX_BLOCK));
+    right_sides = values(rhs_length()), solutions = values(rhs_length()), x = values(rhs_length()), work = values(block_work());
     state = (uint64_t)n;
     size_t p = 0;
     for (int j = 0; j < n; j++)
         for (int i = j; i < n; i++) original[p++] = i == j ? n : random_unit();
-    for (size_t k = 0; k < rhs_length(MANY); k++) right_sides[k] = random_unit();
+    for (size_t k = 0; k < rhs_length(); k++) right_sides[k] = random_unit();
     copy(factor, original, length);
-    accept("factor_plain", metsovary_factor_plain(shape(BLOCK), factor, length, work, (size_t)n));
-    copy(blocked_factor, factor, length);
-    accept("packed_to_blocked", metsovary_packed_to_blocked(shape(BLOCK), blocked_factor, length, work, block_work(BLOCK)));
-    copy(solutions, right_sides, rhs_length(MANY));
-    accept("solve_plain", metsovary_solve_plain(shape(BLOCK), MANY, factor, length, solutions, rhs_length(MANY), work, (size_t)n));
+    accept("factor_plain", metsovary_factor_plain(shape(), factor, length, work, (size_t)n));
+    copy(solutions, right_sides, rhs_length());
+    accept("solve_plain", metsovary_solve_plain(shape(), (uint64_t)sides, factor, length, solutions, rhs_length(), work, (size_t)n));
 }
 
 static void free_operands(void) {
@@ -140,14 +140,18 @@ static void free_operands(void) {
 
 /* ---- before a call, not timed: what it works on ---- */
 
-static void set_packed(int unused) { copy(matrix, original, length); }
+static void set_packed(void) { copy(matrix, original, length); }
 
-static void set_blocked(int block) {
-    copy(matrix, original, length);
-    accept("packed_to_blocked", metsovary_packed_to_blocked(shape(block), matrix, length, work, block_work(block)));
+static void rearrange(double *packed) {
+    accept("packed_to_blocked", metsovary_packed_to_blocked(shape(), packed, length, work, block_work()));
 }
 
-static void set_full(int unused) {
+static void set_blocked(void) {
+    set_packed();
+    rearrange(matrix);
+}
+
+static void set_full(void) {
     const double *column = original;
     for (int j = 0; j < n; j++) {
         copy(full + (size_t)j * (size_t)(n + 1), column, (size_t)(n - j));
@@ -155,7 +159,15 @@ static void set_full(int unused) {
     }
 }
 
-static void set_right_sides(int m) { copy(x, right_sides, rhs_length(m)); }
+static void set_right_sides(void) { copy(x, right_sides, rhs_length()); }
+
+static void set_blocked_factor(void) {
+    set_right_sides();
+    if (factor_block == block) return;
+    copy(blocked_factor, factor, length);
+    rearrange(blocked_factor);
+    factor_block = block;
+}
 
 /* ---- calls ---- */
 
@@ -164,13 +176,13 @@ static void agree(const char *call, double value, double wanted) {
     if (!(fabs(value - wanted) <= 1e-9 * fabs(wanted))) die(call, "another value than the engine's");
 }
 
-static void factor_blocked(int block) {
-    accept("factor_blocked", metsovary_factor_blocked(shape(block), matrix, length, work, block_work(block)));
+static void factor_blocked(void) {
+    accept("factor_blocked", metsovary_factor_blocked(shape(), matrix, length, work, block_work()));
     agree("factor_blocked", matrix[length - 1], factor[length - 1]);
 }
 
-static void factor_plain(int block) {
-    accept("factor_plain", metsovary_factor_plain(shape(block), matrix, length, work, (size_t)n));
+static void factor_plain(void) {
+    accept("factor_plain", metsovary_factor_plain(shape(), matrix, length, work, (size_t)n));
     agree("factor_plain", matrix[length - 1], factor[length - 1]);
 }
 
@@ -180,17 +192,17 @@ static void dpptrf(packed_factor *peer) {
     agree("dpptrf", matrix[length - 1], factor[length - 1]);
 }
 
-static void dpptrf_of_reference(int unused) { dpptrf(reference_dpptrf); }
-static void dpptrf_of_openblas(int unused) { dpptrf(openblas_dpptrf); }
+static void dpptrf_of_reference(void) { dpptrf(reference_dpptrf); }
+static void dpptrf_of_openblas(void) { dpptrf(openblas_dpptrf); }
 
-static void dpotrf_of_openblas(int unused) {
+static void dpotrf_of_openblas(void) {
     int info;
     openblas_dpotrf("L", &n, full, &n, &info, 1);
     agree("dpotrf", full[(size_t)n * (size_t)n - 1], factor[length - 1]);
 }
 
 /* As many multiply-subtract pairs as a factor, on registers alone. The empty instructions keep every product in the loop and the sums in use. */
-static void peak(int unused) {
+static void peak(void) {
     size_t pairs = (size_t)(n - 1) * (size_t)n * (size_t)(n + 1) / 6;
     __m128d p = _mm_set1_pd(0x1p-40), q = p, sums[8];
 #pragma GCC unroll 8
@@ -206,66 +218,99 @@ static void peak(int unused) {
     for (int r = 0; r < 8; r++) __asm__ volatile("" : : "x"(sums[r]));
 }
 
-static void agree_on_solution(const char *call, int m) { agree(call, x[rhs_length(m - 1)], solutions[rhs_length(m - 1)]); }
+/* The first value of the last solution. */
+static void agree_on_solution(const char *call) { agree(call, x[rhs_length() - (size_t)n], solutions[rhs_length() - (size_t)n]); }
 
-static void solve_plain(int m) {
-    accept("solve_plain", metsovary_solve_plain(shape(BLOCK), (uint64_t)m, factor, length, x, rhs_length(m), work, (size_t)n));
-    agree_on_solution("solve_plain", m);
+static void solve_plain(void) {
+    accept("solve_plain", metsovary_solve_plain(shape(), (uint64_t)sides, factor, length, x, rhs_length(), work, (size_t)n));
+    agree_on_solution("solve_plain");
 }
 
-static void solve_blocked(int m) {
-    accept("solve_blocked", metsovary_solve_blocked(shape(BLOCK), (uint64_t)m, blocked_factor, length, x, rhs_length(m), work, (size_t)n));
-    agree_on_solution("solve_blocked", m);
+static void solve_blocked(void) {
+    accept("solve_blocked", metsovary_solve_blocked(shape(), (uint64_t)sides, blocked_factor, length, x, rhs_length(), work, (size_t)n));
+    agree_on_solution("solve_blocked");
 }
 
-static void dpptrs_of_reference(int m) {
+static void dpptrs_of_reference(void) {
     int info;
-    reference_dpptrs("L", &n, &m, factor, x, &n, &info, 1);
-    agree_on_solution("dpptrs", m);
+    reference_dpptrs("L", &n, &sides, factor, x, &n, &info, 1);
+    agree_on_solution("dpptrs");
 }
 
-static void packed_to_blocked(int block) {
-    accept("packed_to_blocked", metsovary_packed_to_blocked(shape(block), matrix, length, work, block_work(block)));
+static void packed_to_blocked(void) { rearrange(matrix); }
+
+static void blocked_to_packed(void) {
+    accept("blocked_to_packed", metsovary_blocked_to_packed(shape(), matrix, length, work, block_work()));
 }
 
-static void blocked_to_packed(int block) {
-    accept("blocked_to_packed", metsovary_blocked_to_packed(shape(block), matrix, length, work, block_work(block)));
-}
-
-static void copy_matrix(int unused) { copy(matrix, original, length); }
+static void copy_matrix(void) { copy(matrix, original, length); }
 
 /* ---- subjects ---- */
 
 typedef struct {
     const char *who, *what;
-    int parameter; /* block length, or number of right-hand sides */
-    void (*prepare)(int parameter), (*call)(int parameter);
+    int block, sides;
+    void (*prepare)(void), (*call)(void);
 } subject;
 
-static const subject subjects[] = {
-    {"metsovary", "factor_blocked", BLOCK, set_blocked, factor_blocked},
-    {"metsovary", "factor_blocked_16", 16, set_blocked, factor_blocked},
-    {"metsovary", "factor_blocked_32", 32, set_blocked, factor_blocked},
-    {"metsovary", "factor_blocked_100", 100, set_blocked, factor_blocked},
-    {"metsovary", "factor_blocked_200", 200, set_blocked, factor_blocked},
-    {"metsovary", "factor_plain", BLOCK, set_packed, factor_plain},
-    {"reference", "dpptrf", 0, set_packed, dpptrf_of_reference},
-    {"OpenBLAS", "dpptrf", 0, set_packed, dpptrf_of_openblas},
-    {"OpenBLAS", "dpotrf", 0, set_full, dpotrf_of_openblas},
-    {"processor", "peak", 0, set_packed, peak},
-    {"metsovary", "packed_to_blocked_16", 16, set_packed, packed_to_blocked},
-    {"metsovary", "blocked_to_packed_16", 16, set_blocked, blocked_to_packed},
-    {"metsovary", "packed_to_blocked_64", 64, set_packed, packed_to_blocked},
-    {"metsovary", "blocked_to_packed_64", 64, set_blocked, blocked_to_packed},
-    {"libc", "memcpy", 0, set_packed, copy_matrix},
-    {"metsovary", "solve_plain_1", 1, set_right_sides, solve_plain},
-    {"metsovary", "solve_blocked_1", 1, set_right_sides, solve_blocked},
-    {"reference", "dpptrs_1", 1, set_right_sides, dpptrs_of_reference},
-    {"metsovary", "solve_plain_100", MANY, set_right_sides, solve_plain},
-    {"metsovary", "solve_blocked_100", MANY, set_right_sides, solve_blocked},
-    {"reference", "dpptrs_100", MANY, set_right_sides, dpptrs_of_reference},
+static const subject always[] = {
+    {"metsovary", "factor_blocked", 64, 0, set_blocked, factor_blocked},
+    {"metsovary", "factor_plain", 0, 0, set_packed, factor_plain},
+    {"reference", "dpptrf", 0, 0, set_packed, dpptrf_of_reference},
+    {"OpenBLAS", "dpptrf", 0, 0, set_packed, dpptrf_of_openblas},
+    {"OpenBLAS", "dpotrf", 0, 0, set_full, dpotrf_of_openblas},
+    {"processor", "peak", 0, 0, set_packed, peak},
+    {"metsovary", "packed_to_blocked", 16, 0, set_packed, packed_to_blocked},
+    {"metsovary", "blocked_to_packed", 16, 0, set_blocked, blocked_to_packed},
+    {"metsovary", "packed_to_blocked", 64, 0, set_packed, packed_to_blocked},
+    {"metsovary", "blocked_to_packed", 64, 0, set_blocked, blocked_to_packed},
+    {"libc", "memcpy", 0, 0, set_packed, copy_matrix},
+    {"metsovary", "solve_plain", 0, 1, set_right_sides, solve_plain},
+    {"metsovary", "solve_blocked", 64, 1, set_blocked_factor, solve_blocked},
+    {"reference", "dpptrs", 0, 1, set_right_sides, dpptrs_of_reference},
+    {"metsovary", "solve_plain", 0, MANY, set_right_sides, solve_plain},
+    {"metsovary", "solve_blocked", 64, MANY, set_blocked_factor, solve_blocked},
+    {"reference", "dpptrs", 0, MANY, set_right_sides, dpptrs_of_reference},
 };
-enum { ALL = sizeof subjects / sizeof *subjects, WITHOUT_MANY = ALL - 3 };
+
+/* What is measured at each of the block lengths that are asked for. */
+static const subject by_block[] = {
+    {"metsovary", "factor_blocked", 0, 0, set_blocked, factor_blocked},
+    {"metsovary", "packed_to_blocked", 0, 0, set_packed, packed_to_blocked},
+    {"metsovary", "blocked_to_packed", 0, 0, set_blocked, blocked_to_packed},
+    {"metsovary", "solve_blocked", 0, 1, set_blocked_factor, solve_blocked},
+    {"metsovary", "solve_blocked", 0, MANY, set_blocked_factor, solve_blocked},
+};
+
+enum { ALWAYS = sizeof always / sizeof *always, BY_BLOCK = sizeof by_block / sizeof *by_block };
+
+static subject subjects[ALWAYS + MAX_BLOCK * BY_BLOCK];
+static int count;
+
+/* Each subject once. */
+static void add(subject s) {
+    for (int k = 0; k < count; k++)
+        if (subjects[k].call == s.call && subjects[k].block == s.block && subjects[k].sides == s.sides) return;
+    subjects[count++] = s;
+}
+
+static void add_always(void) {
+    for (int k = 0; k < ALWAYS; k++) add(always[k]);
+}
+
+/* The block lengths are numbers with a comma between two. */
+static void add_blocks(const char *blocks) {
+    char *end;
+    for (const char *rest = blocks; *rest; rest = *end ? end + 1 : end) {
+        long b = strtol(rest, &end, 10);
+        if (b < 1 || b > MAX_BLOCK || (*end && *end != ',')) die(blocks, "not block lengths from 1 to 200");
+        for (int k = 0; k < BY_BLOCK; k++) {
+            subject s = by_block[k];
+            s.block = (int)b;
+            add(s);
+        }
+    }
+}
 
 /* ---- measuring ---- */
 
@@ -275,34 +320,45 @@ static double seconds(void) {
     return (double)t.tv_sec + 1e-9 * (double)t.tv_nsec;
 }
 
-static void measure(int order, int count) {
-    double least[ALL];
+static void print(const subject *s, double time) {
+    printf("%d\t%s\t%s", n, s->who, s->what);
+    if (s->block) printf("_%d", s->block);
+    if (s->sides) printf("_%d", s->sides);
+    printf("\t%.9f\t%s\n", time, core);
+}
+
+static void measure(int order) {
+    double least[sizeof subjects / sizeof *subjects];
     for (int k = 0; k < count; k++) least[k] = INFINITY;
     make_operands(order);
     for (int round = 0; round < rounds(order); round++)
         for (int k = 0; k < count; k++) {
             const subject *s = &subjects[k];
+            block = s->block, sides = s->sides;
             for (double used = 0; used < ROUND_SECONDS;) {
-                s->prepare(s->parameter);
+                s->prepare();
                 double start = seconds();
-                s->call(s->parameter);
+                s->call();
                 double time = seconds() - start;
                 if (time < least[k]) least[k] = time;
                 used += time;
             }
         }
     free_operands();
-    for (int k = 0; k < count; k++) printf("%d\t%s\t%s\t%.9f\t%s\n", order, subjects[k].who, subjects[k].what, least[k], core);
+    for (int k = 0; k < count; k++) print(&subjects[k], least[k]);
 }
 
 int main(int argc, char **argv) {
-    static const int orders[] = {500, 1000, 2000};
-    if (argc < 2) die("usage", "bench LIBOPENBLAS [N..]");
-    for (int k = 2; k < argc; k++)
+    if (argc < 3) die("usage", "bench LIBOPENBLAS BLOCKS [N..]");
+    for (int k = 3; k < argc; k++)
         if (atoi(argv[k]) < 1 || atoi(argv[k]) > MAX_ORDER) die(argv[k], "not an order from 1 to 4,000");
     load_reference();
     load_openblas(argv[1]);
-    for (size_t k = 0; k < sizeof orders / sizeof *orders; k++) measure(orders[k], orders[k] <= 1000 ? ALL : WITHOUT_MANY);
-    for (int k = 2; k < argc; k++) measure(atoi(argv[k]), ALL);
+    add_always();
+    measure(500);
+    for (int k = 3; k < argc; k++) measure(atoi(argv[k]));
+    add_blocks(argv[2]); /* at the orders that follow */
+    measure(1000);
+    measure(2000);
     return 0;
 }
