@@ -14,31 +14,39 @@ use lib.Ieee.Digits.{back}
 use lib.Ieee.Fits.{down-pos, and-l, and-r, round-is}
 use lib.Ieee.Exact.{HasValue, odd-sign, round-exact}
 use lib.Ieee.Order.{round-mono}
-use Rattle.binary64.specs.Kinds.{finite, positive, belowInfinity}
+use lib.Ieee.Scale.{finite as number}
+use Rattle.binary64.specs.Kinds.{finite, positive}
+use Rattle.binary64.proofs.Values.{finite-number, number-finite, number-of-value}
 
--- ---- the values below +infinity
+-- ---- the values below +infinity: finite or −infinity, and no NaN
 
-pub below-cases : (x : Float) → T (belowInfinity x) → T (finite x) ⊎ (x ≡ inf true)
+unfoldable pub belowInfinity : Float → Bool
+belowInfinity x = lt x (inf false)
+
+pub below-cases : (x : Float) → T (fits binary64 x) → T (belowInfinity x) → T (finite x) ⊎ (x ≡ inf true)
 unfolding belowInfinity lt
-below-cases nan h = absurd h
-below-cases (inf true) h = inr refl
-below-cases (inf false) h = absurd h
-below-cases (fin s m e) h = inl tt
+below-cases nan f h = absurd h
+below-cases (inf true) f h = inr refl
+below-cases (inf false) f h = absurd h
+below-cases (fin s m e) f h = inl (number-finite (fin s m e) f tt)
 
-pub below-finite : (x : Float) → T (belowInfinity x) → T (positive x) → T (finite x)
+pub below-finite : (x : Float) → T (fits binary64 x) → T (belowInfinity x) → T (positive x) → T (finite x)
 unfolding belowInfinity positive lt
-below-finite nan h p = absurd h
-below-finite (inf true) h p = absurd p
-below-finite (inf false) h p = absurd h
-below-finite (fin s m e) h p = tt
+below-finite nan f h p = absurd h
+below-finite (inf true) f h p = absurd p
+below-finite (inf false) f h p = absurd h
+below-finite (fin s m e) f h p = number-finite (fin s m e) f tt
+
+number-below : (x : Float) → T (number x) → T (belowInfinity x)
+unfolding belowInfinity lt
+number-below nan h = absurd h
+number-below (inf s) h = absurd h
+number-below (fin s m e) h = tt
 
 pub finite-below : (x : Float) → T (finite x) → T (belowInfinity x)
-unfolding belowInfinity lt
-finite-below nan h = absurd h
-finite-below (inf s) h = absurd h
-finite-below (fin s m e) h = tt
+finite-below x h = number-below x (finite-number x h)
 
-below-of-le : (x y : Float) → T (le x y) → T (finite y) → T (belowInfinity x)
+below-of-le : (x y : Float) → T (le x y) → T (number y) → T (belowInfinity x)
 unfolding belowInfinity le
 below-of-le nan y h k = absurd h
 below-of-le (inf true) y h k = tt
@@ -71,7 +79,7 @@ units-sign f s q k = go (ltb (q * 2 ^ k) (2 ^ (low f + suc (emax f))))
 round-sign : (f : Format) (s : Bool) (a c : ℕ) → HasSign (round f s a c) s
 round-sign f s a c = rw round-is (units-sign f s _ _)
 
-square-sign : (f : Format) (x : Float) → T (finite x) → HasSign (mul f x x) false
+square-sign : (f : Format) (x : Float) → T (number x) → HasSign (mul f x x) false
 unfolding mul
 square-sign f nan h = absurd h
 square-sign f (inf s) h = absurd h
@@ -120,11 +128,6 @@ fits-exact f s (suc m) e h =
 
 -- ---- differences
 
-value-finite : (x : Float) (s : Bool) (a c : ℕ) → HasValue x s a c → T (finite x)
-value-finite nan s a c v = absurd v
-value-finite (inf t) s a c v = absurd v
-value-finite (fin t m e) s a c v = tt
-
 -- a fraction of at most a value of the format
 round-below : (f : Format) (m : ℕ) (e : ℤ) (a c : ℕ)
     → T (fits f (fin false m e))
@@ -133,7 +136,7 @@ round-below : (f : Format) (m : ℕ) (e : ℤ) (a c : ℕ)
     → T (belowInfinity (round f false a c))
 round-below f m e a c h C k =
     below-of-le (round f false a c) (round f false (m * up e) (down e)) (round-mono f a c (m * up e) (down e) C (down-pos e) k)
-    (value-finite (round f false (m * up e) (down e)) false (m * up e) (down e) (fits-exact f false m e h))
+    (number-of-value (round f false (m * up e) (down e)) false (m * up e) (down e) (fits-exact f false m e h))
 
 minus-below : (x : Float) → HasSign x true → T (belowInfinity x)
 unfolding belowInfinity lt
@@ -175,4 +178,4 @@ pub difference-below : (s x : Float)
     → T (belowInfinity s)
     → T (finite x)
     → T (belowInfinity (sub binary64 s (mul binary64 x x)))
-difference-below s x h k g = sub-below binary64 s (mul binary64 x x) h k (square-sign binary64 x g)
+difference-below s x h k g = sub-below binary64 s (mul binary64 x x) h k (square-sign binary64 x (finite-number x g))

@@ -1,33 +1,67 @@
--- Document 01's roots by bits, as one proposition over a table. Assumes nothing.
+-- Kinds and roots by bits, as one proposition over a table. Assumes nothing.
 use mathlib.Core.Bool.{Bool, true, _&&_}
 use mathlib.Core.List.{List, [], _∷_}
 use Prim.Native.Nat.{ℕ}
 use lib.Dec.{T, eqb}
-use lib.Ieee.{binary64, ofBits, toBits}
+use lib.Ieee.{binary64, ofBits, toBits, lt}
+use Rattle.binary64.specs.declared.kinds.Kind.{Kind}
+use Rattle.binary64.specs.declared.kinds.Kind.the-variants.{Zero, Subnormal, Normal, Infinite, NaN}
+use Rattle.binary64.specs.Kinds.{kindOfBits, kind, kindNumber}
 use Rattle.binary64.specs.Root.{root}
 
+-- a pattern and its kind, which is its value's kind too
+hasKind : ℕ → Kind → Bool
+hasKind p k = eqb (kindNumber (kindOfBits p)) (kindNumber k) && eqb (kindNumber (kind (ofBits binary64 p))) (kindNumber k)
+
 -- the bits of an argument and of its root
-pub record Row : Type 0 where
-  pub argument : ℕ
-  pub expected : ℕ
+hasRoot : ℕ → ℕ → Bool
+hasRoot v r = eqb (toBits binary64 (root (ofBits binary64 v))) r
 
-abbrev pub row : ℕ → ℕ → Row
-row a r = record { argument = a; expected = r }
-
-abbrev pub table : List Row
-table =
-    row 0x0000_0000_0000_0001 0x1E60_0000_0000_0000
-    ∷ row 0x3FEF_FFFF_FFFF_FFFF 0x3FEF_FFFF_FFFF_FFFF
-    ∷ row 0x4000_0000_0000_0000 0x3FF6_A09E_667F_3BCD
+pub rows : List Bool
+unfolding hasKind hasRoot
+rows =
+    -- the first and the last pattern of each kind, and of the normal ones those of either kind of fraction, with each sign
+    hasKind 0x0000_0000_0000_0000 Zero
+    ∷ hasKind 0x8000_0000_0000_0000 Zero
+    ∷ hasKind 0x0000_0000_0000_0001 Subnormal
+    ∷ hasKind 0x000F_FFFF_FFFF_FFFF Subnormal
+    ∷ hasKind 0x8000_0000_0000_0001 Subnormal
+    ∷ hasKind 0x800F_FFFF_FFFF_FFFF Subnormal
+    ∷ hasKind 0x0010_0000_0000_0000 Normal
+    ∷ hasKind 0x0010_0000_0000_0001 Normal
+    ∷ hasKind 0x7FE0_0000_0000_0000 Normal
+    ∷ hasKind 0x7FEF_FFFF_FFFF_FFFF Normal
+    ∷ hasKind 0x8010_0000_0000_0000 Normal
+    ∷ hasKind 0x8010_0000_0000_0001 Normal
+    ∷ hasKind 0xFFE0_0000_0000_0000 Normal
+    ∷ hasKind 0xFFEF_FFFF_FFFF_FFFF Normal
+    ∷ hasKind 0x7FF0_0000_0000_0000 Infinite
+    ∷ hasKind 0xFFF0_0000_0000_0000 Infinite
+    ∷ hasKind 0x7FF0_0000_0000_0001 NaN
+    ∷ hasKind 0x7FFF_FFFF_FFFF_FFFF NaN
+    ∷ hasKind 0xFFF0_0000_0000_0001 NaN
+    ∷ hasKind 0xFFFF_FFFF_FFFF_FFFF NaN
+    -- document 01's roots
+    ∷ hasRoot 0x0000_0000_0000_0001 0x1E60_0000_0000_0000
+    ∷ hasRoot 0x3FEF_FFFF_FFFF_FFFF 0x3FEF_FFFF_FFFF_FFFF
+    ∷ hasRoot 0x4000_0000_0000_0000 0x3FF6_A09E_667F_3BCD
+    -- of the greatest subnormal value, the least normal one and the greatest; of zeros, infinities, a NaN and values below zero
+    ∷ hasRoot 0x000F_FFFF_FFFF_FFFF 0x1FFF_FFFF_FFFF_FFFF
+    ∷ hasRoot 0x0010_0000_0000_0000 0x2000_0000_0000_0000
+    ∷ hasRoot 0x7FEF_FFFF_FFFF_FFFF 0x5FEF_FFFF_FFFF_FFFF
+    ∷ hasRoot 0x0000_0000_0000_0000 0x0000_0000_0000_0000
+    ∷ hasRoot 0x8000_0000_0000_0000 0x8000_0000_0000_0000
+    ∷ hasRoot 0x7FF0_0000_0000_0000 0x7FF0_0000_0000_0000
+    ∷ hasRoot 0xFFF0_0000_0000_0000 0x7FF8_0000_0000_0000
+    ∷ hasRoot 0x7FF0_0000_0000_0001 0x7FF8_0000_0000_0000
+    ∷ hasRoot 0x8000_0000_0000_0001 0x7FF8_0000_0000_0000
+    ∷ hasRoot 0xBFF0_0000_0000_0000 0x7FF8_0000_0000_0000
     ∷ []
 
-abbrev pub right : Row → Bool
-right x = eqb (toBits binary64 (root (ofBits binary64 (x .argument)))) (x .expected)
-
-abbrev pub allRight : List Row → Bool
+abbrev pub allRight : List Bool → Bool
 allRight [] = true
-allRight (x ∷ xs) = right x && allRight xs
+allRight (r ∷ rs) = r && allRight rs
 
-pub roots-by-bits : T (allRight table)
-unfolding root ofBits toBits
-roots-by-bits = tt
+pub examples-hold : T (allRight rows)
+unfolding rows root kindOfBits kind ofBits toBits lt
+examples-hold = tt

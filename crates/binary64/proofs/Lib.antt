@@ -1,4 +1,5 @@
 pub mod Examples
+pub mod KindLaws
 pub mod Magnitudes
 pub mod Bisection
 pub mod Normalising
@@ -8,3 +9,4 @@ pub mod Midpoints
 pub mod Values
 pub mod RootLaws
 pub mod Differences
+pub mod AsBefore

@@ -3,13 +3,16 @@
 use mathlib.Core.Path.{_≡_, refl, sym, ap, _∙_, subst}
 use mathlib.Core.Logic.{inl, inr}
 use Prim.Native.Nat.{ℕ, zero, suc, _+_, _-_, _*_, _/_, _%_, _^_, _≤_, _<_}
-use native.Mathlib.Nat.{le-trans, le-of-eq, lt-of-lt-of-le, lt-of-not-le, mul-assoc, mul-le-mul-right, mod-lt, add-comm, eq-zero-or-pos}
+use native.Mathlib.Nat.{le-trans, le-of-eq, lt-of-lt-of-le, lt-of-not-le, mul-assoc, mul-le-mul-right, mod-lt, add-comm}
 use native.Mathlib.Omega.{arith}
 use lib.Dec.{lit≤}
 use lib.Pow.{pow-pos, pow-mono, pow-add, shl-lt, split}
 use lib.Count.{leadingZeros, leading-top}
+use Rattle.binary64.specs.declared.kinds.Kind.the-variants.{Subnormal, Normal}
+use Rattle.binary64.specs.Kinds.{exponentField, fraction, kindOfBits}
 use Rattle.binary64.specs.Root.{magnitude, scaled}
-use Rattle.binary64.specs.RootSteps.{Normalised}
+use Rattle.binary64.specs.RootSteps.{PositiveFinite, Normalised}
+use Rattle.binary64.proofs.KindLaws.{subnormal-fields, normal-fields}
 use Rattle.binary64.proofs.Magnitudes.{magnitude-subnormal, magnitude-normal}
 
 scaled-is : (p : ℕ) → scaled p ≡ magnitude p * 2 ^ 1076
@@ -18,10 +21,10 @@ scaled-is p = refl
 
 -- ---- normal
 
-normal-value : (k f : ℕ) → f < 2 ^ 52 → scaled (suc k * 2 ^ 52 + f) ≡ (2 ^ 52 + f) * 2 ^ (k + 1076)
-normal-value k f h =
+normal-value : (k f : ℕ) → f < 2 ^ 52 → k < 2047 → scaled (suc k * 2 ^ 52 + f) ≡ (2 ^ 52 + f) * 2 ^ (k + 1076)
+normal-value k f h b =
     scaled-is (suc k * 2 ^ 52 + f)
-    ∙ ap (λ (x : ℕ). x * 2 ^ 1076) (magnitude-normal k f h)
+    ∙ ap (λ (x : ℕ). x * 2 ^ 1076) (magnitude-normal k f h b)
     ∙ mul-assoc (2 ^ 52 + f) (2 ^ k) (2 ^ 1076)
     ∙ ap (λ (x : ℕ). (2 ^ 52 + f) * x) (sym (pow-add 2 k 1076))
 
@@ -39,7 +42,7 @@ normalised-normal p h = go (p / 2 ^ 52) (split p 52) (mod-lt p (pow-pos 52))
           exponent-le = omega arith;
           value =
               ap scaled (sym e)
-              ∙ normal-value k (p % 2 ^ 52) l
+              ∙ normal-value k (p % 2 ^ 52) l (omega arith)
               ∙ ap (λ (x : ℕ). x * 2 ^ (k + 1076)) (add-comm (2 ^ 52) (p % 2 ^ 52))
               ∙ ap (λ (x : ℕ). (p % 2 ^ 52 + 2 ^ 52) * 2 ^ x) exponent;
         }
@@ -92,10 +95,24 @@ normalised-subnormal p g h =
           ∙ sym (mul-assoc p (2 ^ shift p) (2 ^ (1076 - shift p)));
     }
 
+-- ---- the patterns of a positive finite value, by kind
+
+pub subnormal-range : (p : ℕ) → p < 2 ^ 63 → kindOfBits p ≡ Subnormal → (0 < p) × (p < 2 ^ 52)
+unfolding exponentField fraction
+subnormal-range p h e = omega (arith, subnormal-fields p e)
+
+pub normal-range : (p : ℕ) → p < 2 ^ 63 → kindOfBits p ≡ Normal → (2 ^ 52 ≤ p) × (p < 2047 * 2 ^ 52)
+unfolding exponentField
+normal-range p h e = omega (arith, normal-fields p e)
+
 -- ---- any
 
-pub normalised : (p : ℕ) → 0 < p → p < 2047 * 2 ^ 52 → (s : ℕ) × (x : ℕ) × Normalised p s x
-normalised p g h = elim (eq-zero-or-pos (p / 2 ^ 52)) [
-  | inl e ↦ (p * 2 ^ shift p, 1076 - shift p, normalised-subnormal p g (omega arith))
-  | inr l ↦ (p % 2 ^ 52 + 2 ^ 52, p / 2 ^ 52 + 1075, normalised-normal p h (λ e. omega arith))
+pub normalised : (p : ℕ) → PositiveFinite p → (s : ℕ) × (x : ℕ) × Normalised p s x
+normalised p w = elim (w .kind) [
+  | inl e ↦
+      let range : (0 < p) × (p < 2 ^ 52) = subnormal-range p (w .unsigned) e in
+      (p * 2 ^ shift p, 1076 - shift p, normalised-subnormal p (range .0) (range .1))
+  | inr e ↦
+      let range : (2 ^ 52 ≤ p) × (p < 2047 * 2 ^ 52) = normal-range p (w .unsigned) e in
+      (p % 2 ^ 52 + 2 ^ 52, p / 2 ^ 52 + 1075, normalised-normal p (range .1) (λ z. omega arith))
 ]

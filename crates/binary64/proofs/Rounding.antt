@@ -3,7 +3,7 @@
 use mathlib.Core.Path.{_≡_, refl, sym, ap, _∙_, subst}
 use mathlib.Core.Logic.{_⊎_, inl, inr}
 use Prim.Native.Nat.{ℕ, suc, _+_, _-_, _*_, _/_, _%_, _^_, _≤_, _<_}
-use native.Mathlib.Nat.{le-of-lt, eq-or-lt-of-le, mul-assoc, mul-mul-mul-comm, mul-lt-mul-of-pos-right, mul-pos, add-mul, one-mul, pow-suc, pow-zero, pow-succ', eq-zero-or-pos, eq-of-mul-eq-mul-right}
+use native.Mathlib.Nat.{le-of-lt, eq-or-lt-of-le, mul-assoc, mul-mul-mul-comm, mul-lt-mul-of-pos-right, mul-pos, add-mul, pow-succ', eq-zero-or-pos, eq-of-mul-eq-mul-right}
 use native.Mathlib.Omega.{arith}
 use lib.Dec.{eqb, lit≤}
 use lib.Pow.{pow-pos, pow-add}
@@ -11,13 +11,10 @@ use borrow.Author.Tests.{eq-eqb, ne-eqb}
 use Rattle.binary64.specs.Root.{magnitude, lowerMidpoint, upperMidpoint, scaled, MidpointRule, rootBits}
 use Rattle.binary64.specs.RootSteps.{Normalised, IntegerRoot, RootFound}
 use Rattle.binary64.proofs.Magnitudes.{magnitude-is, magnitude-before-power}
-use Rattle.binary64.proofs.Bisection.{root-unique}
+use Rattle.binary64.proofs.Bisection.{pow-two, root-unique}
 use Rattle.binary64.proofs.IntegerRoots.{halfUp, root-ge, root-lt, rounded-below, rounded-above, exact-of-zero, zero-of-exact}
 
 -- ---- squares
-
-pow-two : (x : ℕ) → x ^ 2 ≡ x * x
-pow-two x = pow-suc x 1 ∙ ap (λ (y : ℕ). y * x) (pow-suc x 0 ∙ ap (λ (y : ℕ). y * x) (pow-zero x) ∙ one-mul x)
 
 square-mul : (a u : ℕ) → (a * u) ^ 2 ≡ a * a * (u * u)
 square-mul a u = pow-two (a * u) ∙ mul-mul-mul-comm a u a u
@@ -72,46 +69,47 @@ upper-is p = refl
 twice-and-one : (r u : ℕ) → r * u + (r + 1) * u ≡ (2 * r + 1) * u
 twice-and-one r u = let sum : r + (r + 1) ≡ 2 * r + 1 = omega arith in sym (add-mul r (r + 1) u) ∙ ap (λ (y : ℕ). y * u) sum
 
-upper-at : (r k : ℕ) → 2 ^ 52 ≤ r → r < 2 ^ 53 → upperMidpoint (r + k * 2 ^ 52) ≡ (2 * r + 1) * 2 ^ k
-upper-at r k g h =
+upper-at : (r k : ℕ) → 2 ^ 52 ≤ r → r < 2 ^ 53 → k < 2046 → upperMidpoint (r + k * 2 ^ 52) ≡ (2 * r + 1) * 2 ^ k
+upper-at r k g h b =
     let next : r + k * 2 ^ 52 + 1 ≡ (r + 1) + k * 2 ^ 52 = omega arith in
     let g' : 2 ^ 52 ≤ r + 1 = omega arith in
     let h' : r + 1 ≤ 2 ^ 53 = omega arith in
     upper-is (r + k * 2 ^ 52)
-    ∙ ap (λ (y : ℕ). y + magnitude (r + k * 2 ^ 52 + 1)) (magnitude-is r k (le-of-lt h) (inr g))
-    ∙ ap (λ (y : ℕ). r * 2 ^ k + y) (ap magnitude next ∙ magnitude-is (r + 1) k h' (inr g'))
+    ∙ ap (λ (y : ℕ). y + magnitude (r + k * 2 ^ 52 + 1)) (magnitude-is r k (le-of-lt h) (inr g) (omega arith))
+    ∙ ap (λ (y : ℕ). r * 2 ^ k + y) (ap magnitude next ∙ magnitude-is (r + 1) k h' (inr g') (omega arith))
     ∙ twice-and-one r (2 ^ k)
 
-lower-at : (r k : ℕ) → 2 ^ 52 < r → r < 2 ^ 53 → lowerMidpoint (r + k * 2 ^ 52) ≡ (2 * r - 1) * 2 ^ k
-lower-at r k g h =
+lower-at : (r k : ℕ) → 2 ^ 52 < r → r < 2 ^ 53 → k < 2046 → lowerMidpoint (r + k * 2 ^ 52) ≡ (2 * r - 1) * 2 ^ k
+lower-at r k g h b =
     let before : r + k * 2 ^ 52 - 1 ≡ (r - 1) + k * 2 ^ 52 = omega arith in
     let g' : 2 ^ 52 ≤ r - 1 = omega arith in
     let h' : r - 1 ≤ 2 ^ 53 = omega arith in
     let back : r ≡ r - 1 + 1 = omega arith in
     let sum : 2 * (r - 1) + 1 ≡ 2 * r - 1 = omega arith in
     lower-is (r + k * 2 ^ 52)
-    ∙ ap (λ (y : ℕ). y + magnitude (r + k * 2 ^ 52)) (ap magnitude before ∙ magnitude-is (r - 1) k h' (inr g'))
-    ∙ ap (λ (y : ℕ). (r - 1) * 2 ^ k + y) (magnitude-is r k (le-of-lt h) (inr (le-of-lt g)))
+    ∙ ap (λ (y : ℕ). y + magnitude (r + k * 2 ^ 52)) (ap magnitude before ∙ magnitude-is (r - 1) k h' (inr g') (omega arith))
+    ∙ ap (λ (y : ℕ). (r - 1) * 2 ^ k + y) (magnitude-is r k (le-of-lt h) (inr (le-of-lt g)) (omega arith))
     ∙ ap (λ (y : ℕ). (r - 1) * 2 ^ k + y * 2 ^ k) back
     ∙ twice-and-one (r - 1) (2 ^ k)
     ∙ ap (λ (y : ℕ). y * 2 ^ k) sum
 
 -- at a power of two the gap below is half the gap above
-lower-at-power : (j : ℕ) → lowerMidpoint (2 ^ 52 + suc j * 2 ^ 52) ≡ (2 ^ 54 - 1) * 2 ^ j
-lower-at-power j =
-    omega (arith, lower-is (2 ^ 52 + suc j * 2 ^ 52), magnitude-is (2 ^ 52) (suc j) (lit≤ tt) (inr (lit≤ tt)), pow-succ' 2 j, magnitude-before-power j)
+lower-at-power : (j : ℕ) → j < 2045 → lowerMidpoint (2 ^ 52 + suc j * 2 ^ 52) ≡ (2 ^ 54 - 1) * 2 ^ j
+lower-at-power j b =
+    let at : magnitude (2 ^ 52 + suc j * 2 ^ 52) ≡ 2 ^ 52 * 2 ^ suc j = magnitude-is (2 ^ 52) (suc j) (lit≤ tt) (inr (lit≤ tt)) (omega arith) in
+    omega (arith, lower-is (2 ^ 52 + suc j * 2 ^ 52), at, pow-succ' 2 j, magnitude-before-power j (omega arith))
 
 -- ---- the rule
 
-rule-above : (r k n : ℕ) → 0 < k → 2 ^ 52 ≤ r → r < 2 ^ 53 → 2 ^ 106 ≤ n → (2 * r - 1) * (2 * r - 1) < n
+rule-above : (r k n : ℕ) → 0 < k → k < 2046 → 2 ^ 52 ≤ r → r < 2 ^ 53 → 2 ^ 106 ≤ n → (2 * r - 1) * (2 * r - 1) < n
     → lowerMidpoint (r + k * 2 ^ 52) ^ 2 < n * (2 ^ k * 2 ^ k)
-rule-above r k n K g h b l = elim (eq-or-lt-of-le g) [
+rule-above r k n K B g h b l = elim (eq-or-lt-of-le g) [
   | inl e ↦
       let j = k - 1 in
       let suc-j : suc j ≡ k = omega arith in
       subst (λ (i : ℕ). lowerMidpoint (r + i * 2 ^ 52) ^ 2 < n * (2 ^ i * 2 ^ i)) suc-j
-      (subst (λ (i : ℕ). lowerMidpoint (i + suc j * 2 ^ 52) ^ 2 < n * (2 ^ suc j * 2 ^ suc j)) e (at-power j))
-  | inr m ↦ subst (λ (y : ℕ). y ^ 2 < n * (2 ^ k * 2 ^ k)) (sym (lower-at r k m h)) (scaled-lt (2 * r - 1) n (2 ^ k) (pow-pos k) l)
+      (subst (λ (i : ℕ). lowerMidpoint (i + suc j * 2 ^ 52) ^ 2 < n * (2 ^ suc j * 2 ^ suc j)) e (at-power j (omega arith)))
+  | inr m ↦ subst (λ (y : ℕ). y ^ 2 < n * (2 ^ k * 2 ^ k)) (sym (lower-at r k m h B)) (scaled-lt (2 * r - 1) n (2 ^ k) (pow-pos k) l)
 ]
   where
     four : (u : ℕ) → n * 4 * (u * u) ≡ n * (2 * u * (2 * u))
@@ -120,11 +118,11 @@ rule-above r k n K g h b l = elim (eq-or-lt-of-le g) [
     enough : (2 ^ 54 - 1) * (2 ^ 54 - 1) < n * 4
     enough = omega arith
 
-    at-power : (j : ℕ) → lowerMidpoint (2 ^ 52 + suc j * 2 ^ 52) ^ 2 < n * (2 ^ suc j * 2 ^ suc j)
-    at-power j =
+    at-power : (j : ℕ) → j < 2045 → lowerMidpoint (2 ^ 52 + suc j * 2 ^ 52) ^ 2 < n * (2 ^ suc j * 2 ^ suc j)
+    at-power j J =
         subst (λ (y : ℕ). lowerMidpoint (2 ^ 52 + suc j * 2 ^ 52) ^ 2 < n * (y * y)) (sym (pow-succ' 2 j))
         (subst (λ (y : ℕ). lowerMidpoint (2 ^ 52 + suc j * 2 ^ 52) ^ 2 < y) (four (2 ^ j))
-        (subst (λ (y : ℕ). y ^ 2 < n * 4 * (2 ^ j * 2 ^ j)) (sym (lower-at-power j)) (scaled-lt (2 ^ 54 - 1) (n * 4) (2 ^ j) (pow-pos j) enough)))
+        (subst (λ (y : ℕ). y ^ 2 < n * 4 * (2 ^ j * 2 ^ j)) (sym (lower-at-power j J)) (scaled-lt (2 ^ 54 - 1) (n * 4) (2 ^ j) (pow-pos j) enough)))
 
 -- the root's pattern, of the integer root q at exponent x
 abbrev pub rounded : ℕ → ℕ → ℕ
@@ -157,24 +155,25 @@ module _ (p s x q t : ℕ) (n : Normalised p s x) (w : IntegerRoot (radicand s x
       let r : ℕ = halfUp q in
       let k = rootExponent x in
       let k-pos : 0 < k = omega (arith, n .exponent-ge) in
+      let k-lt : k < 2046 = omega (arith, n .exponent-le) in
       let q-pos : 0 < q = omega (arith, root-range .0) in
       record {
         above =
             subst (λ (y : ℕ). lowerMidpoint (r + k * 2 ^ 52) ^ 2 < y) (sym value)
-            (rule-above r k (radicand s x) k-pos (h .0) (h .1) radicand-ge (rounded-below (radicand s x) q t w (s * 2 ^ (x % 2) * 2 ^ 53) radicand-even q-pos));
+            (rule-above r k (radicand s x) k-pos k-lt (h .0) (h .1) radicand-ge (rounded-below (radicand s x) q t w (s * 2 ^ (x % 2) * 2 ^ 53) radicand-even q-pos));
         below =
             subst (λ (y : ℕ). y < upperMidpoint (r + k * 2 ^ 52) ^ 2) (sym value)
-            (subst (λ (y : ℕ). radicand s x * (2 ^ k * 2 ^ k) < y ^ 2) (sym (upper-at r k (h .0) (h .1)))
+            (subst (λ (y : ℕ). radicand s x * (2 ^ k * 2 ^ k) < y ^ 2) (sym (upper-at r k (h .0) (h .1) k-lt))
             (scaled-gt (2 * r + 1) (radicand s x) (2 ^ k) (pow-pos k) (rounded-above (radicand s x) q t w)));
       }
 
-  pub rounded-root : rounded q x ≡ rootBits p
-  rounded-root = root-unique p (rounded q x) (omega (arith, rounded-range .1)) rounded-rule
+  pub rounded-root : p < 2 ^ 63 → rounded q x ≡ rootBits p
+  rounded-root h = root-unique p (rounded q x) h (omega (arith, rounded-range .1)) rounded-rule
 
   exact-square : (2 * magnitude (rounded q x)) ^ 2 ≡ 2 * halfUp q * (2 * halfUp q) * (2 ^ rootExponent x * 2 ^ rootExponent x)
   exact-square =
       let h = significand-range in
-      ap (λ (y : ℕ). (2 * y) ^ 2) (magnitude-is (halfUp q) (rootExponent x) (le-of-lt (h .1)) (inr (h .0)))
+      ap (λ (y : ℕ). (2 * y) ^ 2) (magnitude-is (halfUp q) (rootExponent x) (le-of-lt (h .1)) (inr (h .0)) (omega (arith, n .exponent-le)))
       ∙ ap (λ (y : ℕ). y ^ 2) (sym (mul-assoc 2 (halfUp q) (2 ^ rootExponent x)))
       ∙ square-mul (2 * halfUp q) (2 ^ rootExponent x)
 
@@ -194,9 +193,9 @@ module _ (p s x q t : ℕ) (n : Normalised p s x) (w : IntegerRoot (radicand s x
             (λ e. (let z : t ≡ 0 = zero-of-exact (radicand s x) q t w (eq-of-mul-eq-mul-right u u-pos (2 * r * (2 * r)) (radicand s x) (sym exact-square ∙ e ∙ value)) in omega arith)))
       ]
 
-  pub rounded-found : RootFound p (rounded q x) (eqb t 0)
-  rounded-found =
+  pub rounded-found : p < 2 ^ 63 → RootFound p (rounded q x) (eqb t 0)
+  rounded-found h =
       record {
-        bits = rounded-root;
-        exactly = rounded-exact ∙ ap (λ (y : ℕ). eqb ((2 * magnitude y) ^ 2) (scaled p)) rounded-root;
+        bits = rounded-root h;
+        exactly = rounded-exact ∙ ap (λ (y : ℕ). eqb ((2 * magnitude y) ^ 2) (scaled p)) (rounded-root h);
       }

@@ -1,9 +1,66 @@
--- The kinds of values that the engine tells apart. Request (f) of document 02 has its one place here.
-use mathlib.Core.Bool.{Bool, false}
+-- IEEE 754's kinds of binary64 by exponent field and fraction, and what the engine tells apart by them.
+use Prim.Native.Nat.{ℕ, _/_, _%_, _^_}
+use mathlib.Core.Bool.{Bool, true, false, cond}
+use lib.Dec.{ltb, eqb}
 use lib.IntN.{pos}
-use lib.Ieee.{Float, inf, fin, lt}
+use lib.Ieee.{Float, fin, binary64, toBits, lt}
+use Rattle.binary64.specs.declared.kinds.Kind.{Kind}
+use Rattle.binary64.specs.declared.kinds.Kind.the-variants.{Zero, Subnormal, Normal, Infinite, NaN}
+
+-- A pattern is a number below 2^64: a digit of sign, 11 of the exponent field, 52 of the fraction.
+unfoldable pub exponentField : ℕ → ℕ
+exponentField p = p % 2 ^ 63 / 2 ^ 52
+
+unfoldable pub fraction : ℕ → ℕ
+fraction p = p % 2 ^ 52
+
+-- the kinds of an exponent field: 0, 1 to 2046, 2047
+pub data FieldKind : Type 0 where
+  allZeros between allOnes : FieldKind
+
+unfoldable pub fieldKind : ℕ → FieldKind
+fieldKind x = cond (eqb x 0) allZeros (cond (ltb x 2047) between allOnes)
+
+-- the kinds of a fraction
+pub data FractionKind : Type 0 where
+  zeroFraction nonzeroFraction : FractionKind
+
+unfoldable pub fractionKind : ℕ → FractionKind
+fractionKind t = cond (eqb t 0) zeroFraction nonzeroFraction
+
+-- IEEE 754's table
+unfoldable pub kindOf : FieldKind → FractionKind → Kind
+kindOf allZeros zeroFraction = Zero
+kindOf allZeros nonzeroFraction = Subnormal
+kindOf between zeroFraction = Normal
+kindOf between nonzeroFraction = Normal
+kindOf allOnes zeroFraction = Infinite
+kindOf allOnes nonzeroFraction = NaN
+
+unfoldable pub kindOfFields : ℕ → ℕ → Kind
+unfolding kindOf fieldKind fractionKind
+kindOfFields x t = kindOf (fieldKind x) (fractionKind t)
+
+unfoldable pub kindOfBits : ℕ → Kind
+unfolding kindOfFields exponentField fraction
+kindOfBits p = kindOfFields (exponentField p) (fraction p)
+
+-- the kind of a value is that of its pattern
+unfoldable pub kind : Float → Kind
+unfolding kindOfBits toBits
+kind x = kindOfBits (toBits binary64 x)
+
 -- neither an infinity nor a NaN
-pub use lib.Ieee.Scale.{finite}
+unfoldable pub finiteKind : Kind → Bool
+finiteKind Zero = true
+finiteKind Subnormal = true
+finiteKind Normal = true
+finiteKind Infinite = false
+finiteKind NaN = false
+
+unfoldable pub finite : Float → Bool
+unfolding finiteKind
+finite x = finiteKind (kind x)
 
 -- +0
 abbrev pub zero64 : Float
@@ -13,6 +70,10 @@ zero64 = fin false 0 (pos 0)
 unfoldable pub positive : Float → Bool
 positive x = lt zero64 x
 
--- below +infinity: finite or −infinity, and no NaN
-unfoldable pub belowInfinity : Float → Bool
-belowInfinity x = lt x (inf false)
+-- a kind's number, for other languages
+abbrev pub kindNumber : Kind → ℕ
+kindNumber Zero = 0
+kindNumber Subnormal = 1
+kindNumber Normal = 2
+kindNumber Infinite = 3
+kindNumber NaN = 4

@@ -1,12 +1,24 @@
 -- The square root of document 01, by bit patterns: the patterns from 0 on are the values from +0 up in rising order, so a neighbour is the next pattern.
-use Prim.Native.Nat.{ℕ, zero, suc, _+_, _-_, _*_, _/_, _%_, _^_, _<_}
-use mathlib.Core.Bool.{Bool, true, false, cond}
-use lib.Dec.{ltb, eqb}
-use lib.Ieee.{Float, nan, inf, fin, binary64, toBits, ofBits}
+use Prim.Native.Nat.{ℕ, zero, suc, _+_, _-_, _*_, _^_, _<_}
+use mathlib.Core.Bool.{Bool, cond}
+use lib.Dec.{ltb}
+use lib.Ieee.{Float, nan, binary64, toBits, ofBits}
+use Rattle.binary64.specs.declared.kinds.Kind.{Kind}
+use Rattle.binary64.specs.declared.kinds.Kind.the-variants.{Zero, Subnormal, Normal, Infinite, NaN}
+use Rattle.binary64.specs.Kinds.{exponentField, fraction, kindOfBits, kind, positive}
 
--- The value of pattern p in units of 2^−1074, the smallest positive value. An exponent field of 0 has no leading digit and counts as a field of 1.
+-- The size of pattern p's value in units of 2^−1074, the smallest positive value: a subnormal has no leading digit and the exponent of field 1.
+-- Past the finite patterns it goes on by the same formula: the next after the greatest finite one stands for 2^1024.
+unfoldable pub inUnits : Kind → ℕ → ℕ → ℕ
+inUnits Zero field digits = 0
+inUnits Subnormal field digits = digits
+inUnits Normal field digits = (2 ^ 52 + digits) * 2 ^ (field - 1)
+inUnits Infinite field digits = (2 ^ 52 + digits) * 2 ^ (field - 1)
+inUnits NaN field digits = (2 ^ 52 + digits) * 2 ^ (field - 1)
+
 unfoldable pub magnitude : ℕ → ℕ
-magnitude p = cond (eqb (p / 2 ^ 52) 0) p ((2 ^ 52 + p % 2 ^ 52) * 2 ^ (p / 2 ^ 52 - 1))
+unfolding inUnits kindOfBits exponentField fraction
+magnitude p = inUnits (kindOfBits p) (exponentField p) (fraction p)
 
 -- the midpoints of p and its lower neighbour, and of p and its upper neighbour, in half units
 unfoldable pub lowerMidpoint : ℕ → ℕ
@@ -37,13 +49,16 @@ unfoldable pub rootBits : ℕ → ℕ
 unfolding bisect lowerMidpoint scaled
 rootBits p = bisect (λ q. ltb (lowerMidpoint q ^ 2) (scaled p)) 63 0
 
--- The root of every value. Document 01 gives it for a finite value above zero; the others are IEEE 754's: a zero and +infinity are their own
--- roots, and a NaN and what is below zero have NaN.
-unfoldable pub root : Float → Float
+-- The root of every value, by its kind and whether it is above zero. Document 01 gives it for a finite value above zero; the others are IEEE 754's:
+-- a zero and +infinity are their own roots, and a NaN and what is below zero have NaN.
+unfoldable pub rootBy : Kind → Bool → Float → Float
 unfolding rootBits
-root nan = nan
-root (inf true) = nan
-root (inf false) = inf false
-root (fin s zero e) = fin s zero e
-root (fin true (suc m) e) = nan
-root (fin false (suc m) e) = ofBits binary64 (rootBits (toBits binary64 (fin false (suc m) e)))
+rootBy Zero above x = x
+rootBy Subnormal above x = cond above (ofBits binary64 (rootBits (toBits binary64 x))) nan
+rootBy Normal above x = cond above (ofBits binary64 (rootBits (toBits binary64 x))) nan
+rootBy Infinite above x = cond above x nan
+rootBy NaN above x = nan
+
+unfoldable pub root : Float → Float
+unfolding rootBy positive
+root x = rootBy (kind x) (positive x) x

@@ -1,9 +1,17 @@
 -- What the steps of the square root promise, on whole numbers.
 use Prim.Native.Nat.{ℕ, _+_, _*_, _^_, _≤_, _<_}
 use mathlib.Core.Path.{_≡_}
+use mathlib.Core.Logic.{_⊎_}
 use mathlib.Core.Bool.{Bool}
 use lib.Dec.{eqb}
+use Rattle.binary64.specs.declared.kinds.Kind.the-variants.{Subnormal, Normal}
+use Rattle.binary64.specs.Kinds.{kindOfBits}
 use Rattle.binary64.specs.Root.{magnitude, scaled, rootBits}
+
+-- the pattern of a value above zero that is finite
+pub record PositiveFinite (p : ℕ) : Type 0 where
+  pub unsigned : p < 2 ^ 63
+  pub kind : (kindOfBits p ≡ Subnormal) ⊎ (kindOfBits p ≡ Normal)
 
 -- a significand of 53 digits and an exponent for pattern p's value on the scale of `scaled`
 pub record Normalised (p significand exponent : ℕ) : Type 0 where

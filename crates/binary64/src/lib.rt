@@ -1,10 +1,14 @@
-// Binary64 values by their bits: the finite test, the square root and the judgement of a pivot.
+// Binary64 values: their kinds, the square root and the judgement of a pivot.
+mod kinds;
 mod root;
 
 ghost use mathlib.Core.Path.{_≡_};
 ghost use Rattle.binary64.specs.Kinds.{finite};
 ghost use Rattle.binary64.specs.Root.{root};
 ghost use Rattle.binary64.specs.Judged.{judged};
+pub use kinds::Kind;
+pub use kinds::kind_of;
+pub use kinds::kind_of_bits;
 
 // What a pivot is judged to: its root, or its refused value.
 pub enum Pivot {
@@ -12,29 +16,36 @@ pub enum Pivot {
     Refused(f64),
 }
 
-// Neither an infinity nor a NaN. The compiler makes one integer comparison of it.
+// Neither an infinity nor a NaN.
 pub fn is_finite(x: f64) -> bool
     ensures { λ r. ⌜ r ≡ finite x ⌝ }
 {
-    let infinity = 1.0 / 0.0;
-    (x < infinity) & (-infinity < x)
+    match kind_of(x) {
+        Kind::Zero | Kind::Subnormal | Kind::Normal => true,
+        Kind::Infinite | Kind::NaN => false,
+    }
 }
 
 // The root of every value, rounded to nearest: `specs/Root.antt` says which it is for a zero, an infinity, a NaN and what is below zero.
 pub fn square_root(x: f64) -> f64
     ensures { λ r. ⌜ r ≡ root x ⌝ }
 {
-    if x > 0.0 {
-        if is_finite(x) {
-            let found = root::root_of_bits(f64::to_bits(x));
-            return f64::from_bits(found.bits);
+    match kind_of(x) {
+        Kind::Zero | Kind::NaN => x,
+        Kind::Subnormal | Kind::Normal => {
+            if x > 0.0 {
+                let found = root::root_of_bits(f64::to_bits(x));
+                return f64::from_bits(found.bits);
+            }
+            0.0 / 0.0
         }
-        return x;
+        Kind::Infinite => {
+            if x > 0.0 {
+                return x;
+            }
+            0.0 / 0.0
+        }
     }
-    if x < 0.0 {
-        return 0.0 / 0.0;
-    }
-    x
 }
 
 // `square_root` for other languages.

@@ -1,9 +1,9 @@
 // The square root of a positive finite value, by its bit pattern: normalise, take the integer root digit by digit, round and assemble.
 ghost use Prim.Native.Nat.{_*_, _^_, _<_};
-ghost use Rattle.binary64.specs.RootSteps.{Normalised, IntegerRoot, RootFound};
-
-// the weight of a significand's leading digit, which a pattern does not hold, and of the exponent field
-const HIDDEN_BIT: u64 = 0x0010_0000_0000_0000;
+ghost use Rattle.binary64.specs.RootSteps.{PositiveFinite, Normalised, IntegerRoot, RootFound};
+use crate::kinds::HIDDEN_BIT;
+use crate::kinds::Kind;
+use crate::kinds::kind_of_bits;
 
 // significand · 2^exponent, with a significand of 53 binary digits
 pub struct Scaled {
@@ -26,21 +26,22 @@ pub struct Found {
 // The pattern's value on the scale of `scaled`. A subnormal's fraction is brought to 53 digits: its leading zeros beyond 11 give the shift,
 // by which the exponent is less.
 fn normalise(bits: u64) -> Scaled
-    requires { ⌜ (0 < bits) × (bits < 2047 * 2 ^ 52) ⌝ }
+    requires { ⌜ PositiveFinite bits ⌝ }
     ensures { λ r. ⌜ Normalised bits (r .significand) (r .exponent) ⌝ }
 {
-    let field = bits / HIDDEN_BIT;
     let fraction = bits % HIDDEN_BIT;
-    if field == 0 {
-        let shift = u64::leading_zeros(fraction) as u64 - 11;
-        return Scaled {
-            significand: fraction << shift,
-            exponent: 1076 - shift,
-        };
-    }
-    Scaled {
-        significand: fraction + HIDDEN_BIT,
-        exponent: field + 1075,
+    match kind_of_bits(bits) {
+        Kind::Subnormal => {
+            let shift = u64::leading_zeros(fraction) as u64 - 11;
+            Scaled {
+                significand: fraction << shift,
+                exponent: 1076 - shift,
+            }
+        }
+        _ => Scaled {
+            significand: fraction + HIDDEN_BIT,
+            exponent: bits / HIDDEN_BIT + 1075,
+        },
     }
 }
 
@@ -67,7 +68,7 @@ fn integer_root(s: u64) -> Floor
 // Of 54 digits the last rounds the others up. It is never a tie: an odd integer root has a remainder. The exponent is halved, and the
 // significand's leading digit adds one to its field.
 pub fn root_of_bits(bits: u64) -> Found
-    requires { ⌜ (0 < bits) × (bits < 2047 * 2 ^ 52) ⌝ }
+    requires { ⌜ PositiveFinite bits ⌝ }
     ensures { λ r. ⌜ RootFound bits (r .bits) (r .exact) ⌝ }
 {
     let x = normalise(bits);

@@ -10,11 +10,11 @@ use lib.Dec.{T}
 use lib.ListN.{length, getD}
 use lib.Ieee.{Float, nan, binary64, fits, sub, mul}
 use lib.Ieee.Fits.{sub-fits}
-use Rattle.binary64.specs.Kinds.{finite, positive, belowInfinity}
+use Rattle.binary64.specs.Kinds.{finite, positive}
 use Rattle.binary64.specs.Root.{root}
 use Rattle.binary64.specs.Judged.{judged}
 use Rattle.binary64.specs.declared.Pivot.the-variants.{Root}
-use Rattle.binary64.proofs.Differences.{difference-below, finite-below, below-finite}
+use Rattle.binary64.proofs.Differences.{belowInfinity, difference-below, finite-below, below-finite}
 use Rattle.binary64.proofs.RootLaws.{root-finite}
 use Rattle.shape.specs.Layouts.{Entry}
 use Rattle.calls.specs.Sequences.{all}
@@ -157,4 +157,4 @@ module _ (n : ℕ) (a : Triangle) (given : FiniteMatrix n a) where
           in
           rw diagonal
           (subst (λ x. T (finite x)) (sym (entry-diagonal n a (suc k) k (omega arith)))
-          (root-finite (pivot a (columns n a k) k) (pv .0) (below-finite (pivot a (columns n a k) k) (pv .1) (passed .0)) (passed .0)))
+          (root-finite (pivot a (columns n a k) k) (pv .0) (below-finite (pivot a (columns n a k) k) (pv .0) (pv .1) (passed .0)) (passed .0)))

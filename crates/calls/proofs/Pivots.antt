@@ -6,9 +6,9 @@ use mathlib.Core.Path.{_≡_, sym, ap, _∙_, subst}
 use mathlib.Core.Logic.{_⊎_}
 use mathlib.Core.Bool.{true, not}
 use lib.Dec.{T, eqb}
-use lib.Ieee.{Float, inf}
-use Rattle.binary64.specs.Kinds.{finite, positive, belowInfinity}
-use Rattle.binary64.proofs.Differences.{below-cases}
+use lib.Ieee.{Float, inf, binary64, fits}
+use Rattle.binary64.specs.Kinds.{finite, positive}
+use Rattle.binary64.proofs.Differences.{belowInfinity, below-cases}
 use Rattle.calls.specs.declared.Verdict.{Verdict}
 use Rattle.calls.specs.Sequences.{all}
 use Rattle.calls.specs.Triangles.{Triangle, height}
@@ -33,7 +33,7 @@ verdict-10 n a given e =
     rules-10 j (pivot a (columns n a j) j) (all finite (below (height n) a j (columns n a j))) (ap (λ (r : Verdict). r .code) (sym (found .there)) ∙ e)
     in
     let is : columnsVerdict n a .value ≡ pivot a (columns n a j) j = ap (λ (r : Verdict). r .value) (found .there) ∙ here .0 in
-    let under : T (belowInfinity (pivot a (columns n a j) j)) =
-    pivot-below n a given j (found .inside) (columns-finite n a given j (omega (arith, found .inside)) (found .before)) .1
+    let under : T (fits binary64 (pivot a (columns n a j) j)) × T (belowInfinity (pivot a (columns n a j) j)) =
+    pivot-below n a given j (found .inside) (columns-finite n a given j (omega (arith, found .inside)) (found .before))
     in
-    subst RefusedPivot (sym is) (record { value = below-cases (pivot a (columns n a j) j) under; notPositive = here .1 })
+    subst RefusedPivot (sym is) (record { value = below-cases (pivot a (columns n a j) j) (under .0) (under .1); notPositive = here .1 })

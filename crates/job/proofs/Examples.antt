@@ -8,7 +8,7 @@ use mathlib.Core.List.{List, [], _∷_, _++_}
 use lib.Dec.{T, eqb}
 use lib.ListN.{take}
 use lib.Ieee.{ofBits, toBits, mul, sub, div, lt}
-use Rattle.binary64.specs.Kinds.{positive}
+use Rattle.binary64.specs.Kinds.{kind, finite, positive}
 use Rattle.binary64.specs.Root.{root}
 use Rattle.binary64.specs.Judged.{judged}
 use Rattle.shape.specs.Places.{triangle, packedPlace, blockedPlace, blockWork}
@@ -111,5 +111,5 @@ table =
     []
 
 examples : T (allListed table)
-unfolding allListed table row lists job littleEndian field bounded value values readSizes mapBytes mapBit padded readMap readValues readJob digits decimal hexDigit hexadecimal jobLine valueLine valueLines endLine jobEnded jobResult solutionLines resultLines blockedPipeline rearrange rearrangerChecks moved factorize factorChecks factored columnsVerdict solve solverChecks solved rhsVerdict rhsPart solution solutions clear firstRefusal lowestRefusal rule1 rule2 rule3 rule4 rule5 rule6 finiteRule rule9 rule11 columnRules columnVerdict rule12 minusProducts pivot quotient below factorColumn cholesky forward backwardRows backward iterate grow tabulate all entry height placeOf load storeColumn store positive root judged triangle packedPlace blockedPlace blockWork toBits ofBits mul sub div lt
+unfolding allListed table row lists job littleEndian field bounded value values readSizes mapBytes mapBit padded readMap readValues readJob digits decimal hexDigit hexadecimal jobLine valueLine valueLines endLine jobEnded jobResult solutionLines resultLines blockedPipeline rearrange rearrangerChecks moved factorize factorChecks factored columnsVerdict solve solverChecks solved rhsVerdict rhsPart solution solutions clear firstRefusal lowestRefusal rule1 rule2 rule3 rule4 rule5 rule6 finiteRule rule9 rule11 columnRules columnVerdict rule12 minusProducts pivot quotient below factorColumn cholesky forward backwardRows backward iterate grow tabulate all entry height placeOf load storeColumn store kind finite positive root judged triangle packedPlace blockedPlace blockWork toBits ofBits mul sub div lt
 examples = tt

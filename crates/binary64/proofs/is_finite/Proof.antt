@@ -1,21 +1,43 @@
--- `binary64::is_finite` meets its contract: what lies strictly between the two infinities is finite. Assumes nothing.
-use mathlib.Core.Path.{_≡_, refl}
-use mathlib.Core.Bool.{true, false, _&&_}
-use lib.Ieee.{Float, nan, inf, fin, lt, neg, div, ofBits}
-use Rattle.binary64.specs.Kinds.{finite}
+-- `binary64::is_finite` meets its contract. Assumes nothing.
+use mathlib.Core.Path.{_≡_, refl, ap, _∙_}
+use mathlib.Core.Bool.{true, false}
+use mathlib.Core.List.{[], _∷_}
+use types.Run.{OneOf, miss}
+use denote.Enum.Declared.{tagOf}
+use borrow.Author.Needs.{needs}
+use Rattle.binary64.specs.declared.kinds.Kind.{Kind}
+use Rattle.binary64.specs.declared.kinds.Kind.the-variants.{Zero, Subnormal, Normal, Infinite, NaN}
+use Rattle.binary64.specs.Kinds.{finiteKind, finite}
+use Rattle.binary64.proofs.kinds.Kind.{the-type}
 use Rattle.binary64.proofs.is_finite.Statement.{statement}
 use Rattle.binary64.proofs.is_finite.Tie as tie
 
-between-infinities : (x : Float) → lt x (inf false) && lt (neg (inf false)) x ≡ finite x
-unfolding lt neg
-between-infinities nan = refl
-between-infinities (inf true) = refl
-between-infinities (inf false) = refl
-between-infinities (fin s m e) = refl
+first-three : (κ : Kind) → OneOf (0 ∷ 1 ∷ 2 ∷ []) (tagOf the-type κ) → true ≡ finiteKind κ
+unfolding finiteKind
+first-three Zero h = refl
+first-three Subnormal h = refl
+first-three Normal h = refl
+first-three Infinite h = absurd (miss (0 ∷ 1 ∷ 2 ∷ []) 3 tt h)
+first-three NaN h = absurd (miss (0 ∷ 1 ∷ 2 ∷ []) 4 tt h)
+
+last-two : (κ : Kind) → OneOf (3 ∷ 4 ∷ []) (tagOf the-type κ) → false ≡ finiteKind κ
+unfolding finiteKind
+last-two Zero h = absurd (miss (3 ∷ 4 ∷ []) 0 tt h)
+last-two Subnormal h = absurd (miss (3 ∷ 4 ∷ []) 1 tt h)
+last-two Normal h = absurd (miss (3 ∷ 4 ∷ []) 2 tt h)
+last-two Infinite h = refl
+last-two NaN h = refl
+
+kind-of-requires : tie.Need-kind-of-requires
+kind-of-requires c κs = search needs
 
 returns : tie.Need-returns
-unfolding div ofBits
-returns c = between-infinities (c .args .x)
+unfolding finite
+returns c = first-three (c .before .kind-of .result) (c .match .keys1) ∙ ap finiteKind (c .before .kind-of .ensures)
+
+returns-2 : tie.Need-returns-2
+unfolding finite
+returns-2 c = last-two (c .before .kind-of .result) (c .match .keys2) ∙ ap finiteKind (c .before .kind-of .ensures)
 
 pub is-finite-spec : {M : Type 1} → statement M
-is-finite-spec = tie.close (tie.spec returns)
+is-finite-spec = tie.close (tie.spec kind-of-requires returns returns-2)

@@ -1,129 +1,153 @@
--- `binary64::square_root` meets its contract, by the kinds of values that its tests tell apart: positive and finite, +infinity, below zero, and the zeros and
--- NaN. Assumes nothing.
+-- `binary64::square_root` meets its contract, kind by kind. Assumes nothing.
 use mathlib.Core.Path.{_≡_, refl, sym, ap, _∙_, subst}
-use mathlib.Core.Bool.{Bool, true, false, not, true≢false}
-use Prim.Native.Nat.{ℕ, zero, suc, _+_, _*_, _^_, _<_}
-use native.Mathlib.Nat.{mul-pos, zero-lt-suc}
-use native.Mathlib.Omega.{arith}
-use lib.Dec.{T, ltb}
-use lib.IntN.{ℤ}
-use lib.Ieee.{Float, nan, inf, fin, binary64, up, down, lt, div, ofBits, toBits, isNan}
-use lib.Ieee.Fits.{up-pos}
-use lib.Ieee.Positive as ieee
+use mathlib.Core.Logic.{_⊎_, inl, inr}
+use mathlib.Core.Bool.{Bool, true, false, not}
+use mathlib.Core.List.{[], _∷_}
+use Prim.Native.Nat.{ℕ, _*_, _^_, _<_}
+use lib.Dec.{T}
+use lib.Ieee.{Float, nan, binary64, div, ofBits, toBits, fits, isNan, nanBits}
+use types.Run.{OneOf, miss}
+use denote.Enum.Declared.{tagOf}
 use borrow.Author.Needs.{needs}
-use borrow.Author.Tests.{lt-ltb, le-ltb}
-use Rattle.binary64.specs.Kinds.{finite, positive, zero64}
-use Rattle.binary64.specs.Root.{root}
-use Rattle.binary64.proofs.Midpoints.{root-range}
-use Rattle.binary64.proofs.Values.{pattern-number, bits-range}
-use Rattle.binary64.proofs.RootLaws.{positive-finite, root-is}
+use Rattle.binary64.specs.declared.kinds.Kind.{Kind}
+use Rattle.binary64.specs.declared.kinds.Kind.the-variants.{Zero, Subnormal, Normal, Infinite, NaN}
+use Rattle.binary64.specs.Kinds.{kind, finiteKind, finite, positive}
+use Rattle.binary64.specs.Root.{rootBits, rootBy, root}
+use Rattle.binary64.specs.RootSteps.{PositiveFinite}
+use Rattle.binary64.proofs.Values.{nan-of-kind, number-of-kind, pattern-number}
+use Rattle.binary64.proofs.RootLaws.{root-is, positive-pattern, root-below}
+use Rattle.binary64.proofs.kinds.Kind.{the-type}
 use Rattle.binary64.proofs.square_root.Statement.{statement}
 use Rattle.binary64.proofs.square_root.Tie as tie
 
--- ---- the other kinds
+-- ---- the arms' kinds
+
+first-arm : (κ : Kind) → OneOf (0 ∷ 4 ∷ []) (tagOf the-type κ) → (κ ≡ Zero) ⊎ (κ ≡ NaN)
+first-arm Zero h = inl refl
+first-arm Subnormal h = absurd (miss (0 ∷ 4 ∷ []) 1 tt h)
+first-arm Normal h = absurd (miss (0 ∷ 4 ∷ []) 2 tt h)
+first-arm Infinite h = absurd (miss (0 ∷ 4 ∷ []) 3 tt h)
+first-arm NaN h = inr refl
+
+second-arm : (κ : Kind) → OneOf (1 ∷ 2 ∷ []) (tagOf the-type κ) → (κ ≡ Subnormal) ⊎ (κ ≡ Normal)
+second-arm Zero h = absurd (miss (1 ∷ 2 ∷ []) 0 tt h)
+second-arm Subnormal h = inl refl
+second-arm Normal h = inr refl
+second-arm Infinite h = absurd (miss (1 ∷ 2 ∷ []) 3 tt h)
+second-arm NaN h = absurd (miss (1 ∷ 2 ∷ []) 4 tt h)
+
+-- ---- a zero, an infinity, a NaN
+
+module _ (x : Float) where
+  infinite-root : kind x ≡ Infinite → positive x ≡ true → x ≡ root x
+  unfolding root
+  infinite-root e a = rw (e, a) refl
+
+  infinite-below : kind x ≡ Infinite → positive x ≡ false → nan ≡ root x
+  unfolding root
+  infinite-below e a = rw (e, a) refl
+
+  itself : T (fits binary64 x) → (kind x ≡ Zero) ⊎ (kind x ≡ NaN) → x ≡ root x
+  unfolding root
+  itself f (inl e) = rw e refl
+  itself f (inr e) = rw e (nan-of-kind x f e)
+
+-- ---- a subnormal or normal value
+
+either : (P : Kind → Type 0) (κ : Kind) → P Subnormal → P Normal → (κ ≡ Subnormal) ⊎ (κ ≡ Normal) → P κ
+either P κ s n (inl e) = subst P (sym e) s
+either P κ s n (inr e) = subst P (sym e) n
+
+module _ (x : Float) (k : (kind x ≡ Subnormal) ⊎ (kind x ≡ Normal)) where
+  below-root : positive x ≡ false → nan ≡ root x
+  unfolding root
+  below-root a = rw a (either (λ κ. nan ≡ rootBy κ false x) (kind x) refl refl k)
+
+  finite-value : T (finite x)
+  unfolding finite
+  finite-value = either (λ κ. T (finiteKind κ)) (kind x) tt tt k
+
+  not-nan : T (not (isNan x))
+  unfolding finite
+  not-nan = number-of-kind x (λ e. subst (λ κ. T (finiteKind κ)) e finite-value)
+
+  module _ (f : T (fits binary64 x)) (a : T (positive x)) where
+    rootable : PositiveFinite (toBits binary64 x)
+    rootable = positive-pattern x f finite-value a
+
+    rooted : root x ≡ ofBits binary64 (rootBits (toBits binary64 x))
+    rooted = root-is x f finite-value a
+
+    root-number : (b : ℕ) → b ≡ rootBits (toBits binary64 x) → T (not (nanBits binary64 b))
+    root-number b e = pattern-number b (subst (λ (y : ℕ). y < 2047 * 2 ^ 52) (sym e) (root-below x f finite-value a))
+
+-- ---- the needs
+
+kind-of-requires : tie.Need-kind-of-requires
+kind-of-requires c κs = search needs
 
 is-true : {b : Bool} → b ≡ true → T b
 is-true e = subst T (sym e) tt
 
-not-nan : (x : Float) → positive x ≡ true → T (not (isNan x))
-unfolding positive lt isNan
-not-nan nan h = absurd (true≢false (sym h))
-not-nan (inf s) h = tt
-not-nan (fin s m e) h = tt
+second-kind : (c : tie.At-match-keys2) → (kind (c .before .before .args .x) ≡ Subnormal) ⊎ (kind (c .before .before .args .x) ≡ Normal)
+second-kind c = subst (λ κ. (κ ≡ Subnormal) ⊎ (κ ≡ Normal)) (c .before .kind-of .ensures) (second-arm (c .before .kind-of .result) (c .match .keys2))
 
-root-infinity : (x : Float) → positive x ≡ true → finite x ≡ false → x ≡ root x
-unfolding positive lt root
-root-infinity nan h f = refl
-root-infinity (inf true) h f = absurd (true≢false (sym h))
-root-infinity (inf false) h f = refl
-root-infinity (fin s m e) h f = absurd (true≢false f)
+third-kind : (c : tie.After-enum-told) → kind (c .before .before .before .args .x) ≡ Infinite
+third-kind c = sym (c .before .before .kind-of .ensures) ∙ c .enum-told .given .1
 
--- the numbers that the tests compare, where a zero's is 0 times another
-less-than-zero : (a d : ℕ) → ltb a (0 * 1 * d) ≡ false
-less-than-zero a d = le-ltb a (0 * 1 * d) (omega arith)
-
-zero-less : (a d : ℕ) → 0 < a → ltb (0 * 1 * d) a ≡ true
-zero-less a d h = lt-ltb (0 * 1 * d) a (omega arith)
-
-zeros-level : (u d : ℕ) → ltb 0 (0 * u * 1 + 0 * 1 * d) ≡ false
-zeros-level u d = le-ltb 0 (0 * u * 1 + 0 * 1 * d) (omega arith)
-
-negative-less : (a d : ℕ) → 0 < a → ltb 0 (a + 0 * 1 * d) ≡ true
-negative-less a d h = lt-ltb 0 (a + 0 * 1 * d) (omega arith)
-
-size-pos : (m : ℕ) (e : ℤ) → 0 < suc m * up e * 1
-size-pos m e = mul-pos (mul-pos (zero-lt-suc m) (up-pos e)) (zero-lt-suc 0)
-
-root-below : (x : Float) → lt x zero64 ≡ true → nan ≡ root x
-unfolding lt root
-root-below nan h = refl
-root-below (inf true) h = refl
-root-below (inf false) h = absurd (true≢false (sym h))
-root-below (fin true zero e) h = absurd (true≢false (sym h ∙ zeros-level (up e) (down e)))
-root-below (fin true (suc m) e) h = refl
-root-below (fin false zero e) h = absurd (true≢false (sym h ∙ less-than-zero (0 * up e * 1) (down e)))
-root-below (fin false (suc m) e) h = absurd (true≢false (sym h ∙ less-than-zero (suc m * up e * 1) (down e)))
-
-root-itself : (x : Float) → positive x ≡ false → lt x zero64 ≡ false → x ≡ root x
-unfolding positive lt root
-root-itself nan h k = refl
-root-itself (inf true) h k = absurd (true≢false k)
-root-itself (inf false) h k = refl
-root-itself (fin true zero e) h k = refl
-root-itself (fin false zero e) h k = refl
-root-itself (fin true (suc m) e) h k = absurd (true≢false (sym (negative-less (suc m * up e * 1) (down e) (size-pos m e)) ∙ k))
-root-itself (fin false (suc m) e) h k = absurd (true≢false (sym (zero-less (suc m * up e * 1) (down e) (size-pos m e)) ∙ h))
-
--- ---- the needs
-
-is-finite-requires : tie.Need-is-finite-requires
-is-finite-requires c κs = search needs
-
-positive-taken : (c : tie.Then2) → T (ieee.positive (c .before .before .before .args .x))
+is-above : (c : tie.Then1) → T (positive (c .before .before .before .args .x))
 unfolding ofBits positive
-positive-taken c =
-    positive-finite (c .before .before .before .args .x) (is-true (sym (c .before .is-finite .ensures) ∙ c .if2 .taken)) (is-true (c .before .before .if1 .taken))
-
-bits-taken : (c : tie.Then2) → (0 < toBits binary64 (c .before .before .before .args .x)) × (toBits binary64 (c .before .before .before .args .x) < 2047 * 2 ^ 52)
-bits-taken c = bits-range (c .before .before .before .args .x) (is-true (c .before .before .before .good .0 .1)) (positive-taken c)
+is-above c = is-true (c .if1 .taken)
 
 float-to-bits-root-of-bits : tie.Need-float-to-bits-root-of-bits
-unfolding ofBits positive
-float-to-bits-root-of-bits c = not-nan (c .before .before .before .args .x) (c .before .before .if1 .taken)
+float-to-bits-root-of-bits c = not-nan (c .before .before .before .args .x) (second-kind (c .before))
 
 root-of-bits-requires : tie.Need-root-of-bits-requires
-root-of-bits-requires c κs = bits-taken c
+root-of-bits-requires c κs = rootable (c .before .before .before .args .x) (second-kind (c .before)) (is-true (c .before .before .before .good .0 .1)) (is-above c)
 
 float-from-bits-result : tie.Need-float-from-bits-result
 float-from-bits-result c =
-    let h = bits-taken (c .before .before) in
-    let p = toBits binary64 (c .before .before .before .before .before .args .x) in
-    pattern-number (c .before .root-of-bits .result .bits) (subst (λ (y : ℕ). y < 2047 * 2 ^ 52) (sym (c .before .root-of-bits .ensures .bits)) (root-range p (h .0) (h .1) .1))
+    let start = c .before .before .before .before .before in
+    root-number (start .args .x) (second-kind (c .before .before .before)) (is-true (start .good .0 .1)) (is-above (c .before .before))
+    (c .before .root-of-bits .result .bits) (c .before .root-of-bits .ensures .bits)
 
 returns : tie.Need-returns
-returns c = ap (ofBits binary64) (c .before .root-of-bits .ensures .bits) ∙ sym (root-is (c .before .before .before .before .before .args .x) (positive-taken (c .before .before)))
+returns c =
+    let start = c .before .before .before .before .before in
+    ap (ofBits binary64) (c .before .root-of-bits .ensures .bits)
+    ∙ sym (rooted (start .args .x) (second-kind (c .before .before .before)) (is-true (start .good .0 .1)) (is-above (c .before .before)))
+
+enum-told : tie.Need-enum-told
+enum-told c = search needs
 
 returns-2 : tie.Need-returns-2
 unfolding ofBits positive
-returns-2 c = root-infinity (c .before .before .before .args .x) (c .before .before .if1 .taken) (sym (c .before .is-finite .ensures) ∙ c .if2 .left)
+returns-2 c = infinite-root (c .before .before .before .before .args .x) (third-kind (c .before)) (c .if2 .taken)
 
 returns-3 : tie.Need-returns-3
-unfolding ofBits div
-returns-3 c = root-below (c .before .before .args .x) (c .if3 .taken)
+returns-3 c =
+    itself (c .before .before .args .x) (is-true (c .before .before .good .0 .1))
+    (subst (λ κ. (κ ≡ Zero) ⊎ (κ ≡ NaN)) (c .before .kind-of .ensures) (first-arm (c .before .kind-of .result) (c .match .keys1)))
 
 returns-4 : tie.Need-returns-4
-unfolding ofBits positive
-returns-4 c = root-itself (c .before .before .args .x) (c .before .if1 .left) (c .if3 .left)
+unfolding ofBits div positive
+returns-4 c = below-root (c .before .before .before .args .x) (second-kind (c .before)) (c .if1 .left)
+
+returns-5 : tie.Need-returns-5
+unfolding ofBits div positive
+returns-5 c = infinite-below (c .before .before .before .before .args .x) (third-kind (c .before)) (c .if2 .left)
 
 pub square-root-spec : {M : Type 1} → statement M
 square-root-spec =
     tie.close
     (tie.spec
-    is-finite-requires
+    kind-of-requires
     float-to-bits-root-of-bits
     root-of-bits-requires
     float-from-bits-result
     returns
+    enum-told
     returns-2
     returns-3
-    returns-4)
+    returns-4
+    returns-5)

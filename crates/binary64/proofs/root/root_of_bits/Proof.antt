@@ -60,7 +60,7 @@ returns c =
     let q = c .before .integer-root .result .root in
     let t = c .before .integer-root .result .remainder in
     let n = c .before .before .before .normalise .ensures in
-    rounded-found p s x q t n (root-of-radicand p s x q t n (c .before .integer-root .ensures))
+    rounded-found p s x q t n (root-of-radicand p s x q t n (c .before .integer-root .ensures)) (c .before .before .before .before .pre .unsigned)
 
 pub root-of-bits-spec : {M : Type 1} → statement M
 root-of-bits-spec =

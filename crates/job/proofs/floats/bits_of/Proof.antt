@@ -1,17 +1,29 @@
--- `job::floats::bits_of` meets its contract. Only a NaN differs from itself. Assumes nothing.
-use Rattle.job.proofs.Patterns.{nan-bits, not-nan}
+-- `job::floats::bits_of` meets its contract, by the kind of the value. Assumes nothing.
+use mathlib.Core.Path.{sym, _∙_, subst}
+use lib.Dec.{T}
 use borrow.Author.Needs.{needs}
+use Rattle.binary64.proofs.Values.{number-of-kind}
+use Rattle.job.proofs.Patterns.{not-nan, nan-bits}
 use Rattle.job.proofs.floats.bits_of.Statement.{statement}
 use Rattle.job.proofs.floats.bits_of.Tie as tie
 
-returns : tie.Need-returns
-returns c = nan-bits (c .before .args .v) (c .if1 .taken)
+kind-of-requires : tie.Need-kind-of-requires
+kind-of-requires c κs = search needs
+
+enum-told : tie.Need-enum-told
+enum-told c = search needs
 
 float-to-bits-result : tie.Need-float-to-bits-result
-float-to-bits-result c = not-nan (c .before .args .v) (c .if1 .left)
+float-to-bits-result c =
+    number-of-kind (c .before .before .args .v) (λ e. not-nan (c .before .kind-of .result) (c .match .keys2) (c .before .kind-of .ensures ∙ e))
+
+returns : tie.Need-returns
+returns c =
+    let start = c .before .before .before in
+    nan-bits (start .args .v) (subst T (sym (start .good .0 .1)) tt) (sym (c .before .before .kind-of .ensures) ∙ c .enum-told .given .1)
 
 returns-2 : tie.Need-returns-2
 returns-2 c = search needs
 
 pub bits-of-spec : {M : Type 1} → statement M
-bits-of-spec = tie.close (tie.spec returns float-to-bits-result returns-2)
+bits-of-spec = tie.close (tie.spec kind-of-requires enum-told float-to-bits-result returns returns-2)

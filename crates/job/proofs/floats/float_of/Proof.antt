@@ -1,17 +1,29 @@
--- `job::floats::float_of` meets its contract. The test is that of a NaN's pattern. Assumes nothing.
-use Rattle.job.proofs.Patterns.{pattern-nan, pattern-number}
+-- `job::floats::float_of` meets its contract, by the kind of the pattern. Assumes nothing.
+use mathlib.Core.Path.{sym, _∙_}
+use native.Mathlib.Omega.{arith}
 use borrow.Author.Needs.{needs}
+use Rattle.job.proofs.Patterns.{not-nan, pattern-nan, pattern-number}
 use Rattle.job.proofs.floats.float_of.Statement.{statement}
 use Rattle.job.proofs.floats.float_of.Tie as tie
 
-returns : tie.Need-returns
-returns c = pattern-nan (c .before .args .bits) (c .if1 .taken)
+kind-of-bits-requires : tie.Need-kind-of-bits-requires
+kind-of-bits-requires c κs = search needs
+
+enum-told : tie.Need-enum-told
+enum-told c = search needs
 
 float-from-bits-result : tie.Need-float-from-bits-result
-float-from-bits-result c = pattern-number (c .before .args .bits) (c .if1 .left)
+float-from-bits-result c =
+    let start = c .before .before in
+    pattern-number (start .args .bits) (omega arith) (λ e. not-nan (c .before .kind-of-bits .result) (c .match .keys2) (c .before .kind-of-bits .ensures ∙ e))
+
+returns : tie.Need-returns
+returns c =
+    let start = c .before .before .before in
+    pattern-nan (start .args .bits) (omega arith) (sym (c .before .before .kind-of-bits .ensures) ∙ c .enum-told .given .1)
 
 returns-2 : tie.Need-returns-2
 returns-2 c = search needs
 
 pub float-of-spec : {M : Type 1} → statement M
-float-of-spec = tie.close (tie.spec returns float-from-bits-result returns-2)
+float-of-spec = tie.close (tie.spec kind-of-bits-requires enum-told float-from-bits-result returns returns-2)
