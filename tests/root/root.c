@@ -1,40 +1,19 @@
 // The square root of crate binary64 against the processor's, bit for bit, on fixed patterns. Each group of patterns is one test.
 // Where a root is a NaN the other must be a NaN too; the logic's floats have one NaN, so their bits are not compared.
 #include <emmintrin.h>
-#include <inttypes.h>
-#include <stdbool.h>
-#include <stdint.h>
-#include <stdio.h>
-#include <string.h>
+
+#include "../patterns.h"
 
 double metsovary_square_root(double x);
 
 enum {
-    FRACTION = 52,     // binary digits of the fraction
-    FIELD_MAX = 2047,  // the exponent field of infinities and NaNs
-    SAMPLES = 4096,    // random fractions for each exponent
-    NEAR = 64,         // neighbours on either side of a power of two
-    SHOWN = 10,        // differences that are printed
+    SAMPLES = 4096, // random fractions for each exponent
+    NEAR = 64,      // neighbours on either side of a power of two
 };
 
-static const uint64_t SIGN = UINT64_C(1) << 63;
 static const uint64_t LEADING = UINT64_C(1) << FRACTION;
 static const uint64_t INFINITE = (uint64_t)FIELD_MAX << FRACTION;
 static const uint64_t QUIET_NAN = UINT64_C(0xFFF) << (FRACTION - 1);
-
-static uint64_t bits_of(double x) {
-    uint64_t bits;
-    memcpy(&bits, &x, sizeof bits);
-    return bits;
-}
-
-static double value_of(uint64_t bits) {
-    double x;
-    memcpy(&x, &bits, sizeof x);
-    return x;
-}
-
-static uint64_t pattern(uint64_t field, uint64_t fraction) { return field << FRACTION | fraction; }
 
 static bool is_nan(uint64_t bits) { return (bits & ~SIGN) > INFINITE; }
 
@@ -48,24 +27,9 @@ static uint64_t processor_root(uint64_t x) {
 
 static uint64_t library_root(uint64_t x) { return bits_of(metsovary_square_root(value_of(x))); }
 
-// The generator splitmix64.
-static uint64_t random_state = 1;
-
-static uint64_t random_bits(unsigned count) {
-    uint64_t z = random_state += UINT64_C(0x9E3779B97F4A7C15);
-    z = (z ^ z >> 30) * UINT64_C(0xBF58476D1CE4E5B9);
-    z = (z ^ z >> 27) * UINT64_C(0x94D049BB133111EB);
-    return (z ^ z >> 31) >> (64 - count);
-}
-
-static unsigned long patterns, differing, shown;
-
 static void expect(uint64_t x, uint64_t root) {
     uint64_t library = library_root(x), processor = processor_root(x);
-    patterns++;
-    if (same(library, root) && same(processor, root)) return;
-    differing++;
-    if (shown++ < SHOWN)
+    if (count(same(library, root) && same(processor, root)))
         printf("root: %016" PRIX64 " gives %016" PRIX64 ", the processor's root is %016" PRIX64 ", expected %016" PRIX64 "\n", x, library, processor, root);
 }
 
@@ -187,10 +151,7 @@ static void near_squares_of_midpoints(void) {
     }
 }
 
-static const struct {
-    const char *name;
-    void (*run)(void);
-} groups[] = {
+static const group groups[] = {
     {"worked examples", worked_examples},
     {"zeros and infinities", zeros_and_infinities},
     {"NaNs", nans},
@@ -204,15 +165,4 @@ static const struct {
     {"neighbours of squares of midpoints", near_squares_of_midpoints},
 };
 
-int main(void) {
-    const size_t count = sizeof groups / sizeof groups[0];
-    size_t failed = 0;
-    for (size_t g = 0; g < count; g++) {
-        patterns = differing = 0;
-        groups[g].run();
-        printf("root: %s: %lu patterns, %lu differ\n", groups[g].name, patterns, differing);
-        failed += differing != 0;
-    }
-    printf("%zu passed, %zu failed\n", count - failed, failed);
-    return failed != 0;
-}
+int main(void) { return run_groups("root", groups, sizeof groups / sizeof groups[0]); }

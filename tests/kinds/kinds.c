@@ -1,0 +1,95 @@
+// The kinds of crate binary64 against the C library's fpclassify and signbit, of values and of bit patterns. Each group of patterns is one test.
+#include <math.h>
+
+#include "../patterns.h"
+
+uint64_t metsovary_kind(double x);
+uint64_t metsovary_kind_of_bits(uint64_t bits);
+double metsovary_square_root(double x);
+
+enum { ZERO, SUBNORMAL, NORMAL, INFINITE, A_NAN };
+
+enum { RANDOM = 1000000 };
+
+static uint64_t library_kind(double x) {
+    switch (fpclassify(x)) {
+    case FP_ZERO: return ZERO;
+    case FP_SUBNORMAL: return SUBNORMAL;
+    case FP_NORMAL: return NORMAL;
+    case FP_INFINITE: return INFINITE;
+    default: return A_NAN;
+    }
+}
+
+// What IEEE 754 says of a root by the kind and the sign of its argument.
+static bool right_root(double x, double root) {
+    if (fpclassify(x) == FP_ZERO) return fpclassify(root) == FP_ZERO && !signbit(root) == !signbit(x);
+    if (fpclassify(x) == FP_NAN || signbit(x)) return fpclassify(root) == FP_NAN;
+    return fpclassify(root) == (fpclassify(x) == FP_INFINITE ? FP_INFINITE : FP_NORMAL) && !signbit(root);
+}
+
+static void expect(uint64_t bits, uint64_t kind) {
+    double x = value_of(bits);
+    double root = metsovary_square_root(x);
+    uint64_t of_value = metsovary_kind(x), of_bits = metsovary_kind_of_bits(bits), library = library_kind(x);
+    if (count(of_value == kind && of_bits == kind && library == kind && right_root(x, root)))
+        printf("kinds: %016" PRIX64 " is %" PRIu64 " as a value and %" PRIu64 " by its bits, the C library's kind is %" PRIu64 ", expected %" PRIu64
+               "; its root is %016" PRIX64 "\n",
+               bits, of_value, of_bits, library, kind, bits_of(root));
+}
+
+static void compare(uint64_t bits) { expect(bits, library_kind(value_of(bits))); }
+
+// ---- the groups
+
+// Each row of IEEE 754's table: the first and the last exponent field, the first and the last fraction, and the kind.
+static const struct {
+    uint64_t first_field, last_field, first_fraction, last_fraction, kind;
+} rows[] = {
+    {0, 0, 0, 0, ZERO},
+    {0, 0, 1, UINT64_C(0xFFFFFFFFFFFFF), SUBNORMAL},
+    {1, 2046, 0, 0, NORMAL},
+    {1, 2046, 1, UINT64_C(0xFFFFFFFFFFFFF), NORMAL},
+    {2047, 2047, 0, 0, INFINITE},
+    {2047, 2047, 1, UINT64_C(0xFFFFFFFFFFFFF), A_NAN},
+};
+
+static void first_and_last(void) {
+    for (size_t r = 0; r < sizeof rows / sizeof rows[0]; r++)
+        for (uint64_t corner = 0; corner < 8; corner++) {
+            uint64_t field = corner & 1 ? rows[r].last_field : rows[r].first_field;
+            uint64_t digits = corner & 2 ? rows[r].last_fraction : rows[r].first_fraction;
+            expect((corner & 4 ? SIGN : 0) | pattern(field, digits), rows[r].kind);
+        }
+}
+
+static void every_field(void) {
+    for (uint64_t field = 0; field <= FIELD_MAX; field++)
+        for (uint64_t sign = 0; sign < 2; sign++) {
+            compare(sign << 63 | pattern(field, 0));
+            for (unsigned digit = 0; digit < FRACTION; digit++) compare(sign << 63 | pattern(field, UINT64_C(1) << digit));
+        }
+}
+
+static void random_patterns(void) {
+    for (unsigned k = 0; k < RANDOM; k++) compare(random_bits(64));
+}
+
+// A random row first, so that every kind comes as often as the rows have it.
+static void random_rows(void) {
+    for (unsigned k = 0; k < RANDOM; k++) {
+        size_t r = random_bits(32) % (sizeof rows / sizeof rows[0]);
+        uint64_t field = rows[r].first_field + random_bits(32) % (rows[r].last_field - rows[r].first_field + 1);
+        uint64_t digits = rows[r].first_fraction + random_bits(64) % (rows[r].last_fraction - rows[r].first_fraction + 1);
+        expect(random_bits(1) << 63 | pattern(field, digits), rows[r].kind);
+    }
+}
+
+static const group groups[] = {
+    {"the first and the last pattern of each row, with both signs", first_and_last},
+    {"every exponent field with each digit of the fraction, with both signs", every_field},
+    {"random patterns", random_patterns},
+    {"random patterns of a random row", random_rows},
+};
+
+int main(void) { return run_groups("kinds", groups, sizeof groups / sizeof groups[0]); }
