@@ -16,6 +16,7 @@ enum {
 };
 
 static const uint64_t SIGN = UINT64_C(1) << 63;
+static const uint64_t LEADING = UINT64_C(1) << FRACTION; // the weight of a significand's leading digit
 
 static inline uint64_t bits_of(double x) {
     uint64_t bits;
@@ -34,11 +35,11 @@ static inline uint64_t pattern(uint64_t field, uint64_t fraction) { return field
 // The generator splitmix64.
 static uint64_t random_state = 1;
 
-static inline uint64_t random_bits(unsigned count) {
+static inline uint64_t random_bits(unsigned digits) {
     uint64_t z = random_state += UINT64_C(0x9E3779B97F4A7C15);
     z = (z ^ z >> 30) * UINT64_C(0xBF58476D1CE4E5B9);
     z = (z ^ z >> 27) * UINT64_C(0x94D049BB133111EB);
-    return (z ^ z >> 31) >> (64 - count);
+    return (z ^ z >> 31) >> (64 - digits);
 }
 
 static unsigned long patterns, differing, shown;

@@ -7,11 +7,12 @@ uint64_t metsovary_kind(double x);
 uint64_t metsovary_kind_of_bits(uint64_t bits);
 double metsovary_square_root(double x);
 
+// The numbers of the kinds, as the crate has them (`kindNumber`).
 enum { ZERO, SUBNORMAL, NORMAL, INFINITE, A_NAN };
 
 enum { RANDOM = 1000000 };
 
-static uint64_t library_kind(double x) {
+static uint64_t c_library_kind(double x) {
     switch (fpclassify(x)) {
     case FP_ZERO: return ZERO;
     case FP_SUBNORMAL: return SUBNORMAL;
@@ -21,7 +22,7 @@ static uint64_t library_kind(double x) {
     }
 }
 
-// What IEEE 754 says of a root by the kind and the sign of its argument.
+// What IEEE 754 says of a root by the kind and the sign of its argument; its digits are compared in tests/root.
 static bool right_root(double x, double root) {
     if (fpclassify(x) == FP_ZERO) return fpclassify(root) == FP_ZERO && !signbit(root) == !signbit(x);
     if (fpclassify(x) == FP_NAN || signbit(x)) return fpclassify(root) == FP_NAN;
@@ -31,36 +32,46 @@ static bool right_root(double x, double root) {
 static void expect(uint64_t bits, uint64_t kind) {
     double x = value_of(bits);
     double root = metsovary_square_root(x);
-    uint64_t of_value = metsovary_kind(x), of_bits = metsovary_kind_of_bits(bits), library = library_kind(x);
-    if (count(of_value == kind && of_bits == kind && library == kind && right_root(x, root)))
+    uint64_t of_value = metsovary_kind(x), of_bits = metsovary_kind_of_bits(bits), c_library = c_library_kind(x);
+    if (count(of_value == kind && of_bits == kind && c_library == kind && right_root(x, root)))
         printf("kinds: %016" PRIX64 " is %" PRIu64 " as a value and %" PRIu64 " by its bits, the C library's kind is %" PRIu64 ", expected %" PRIu64
                "; its root is %016" PRIX64 "\n",
-               bits, of_value, of_bits, library, kind, bits_of(root));
+               bits, of_value, of_bits, c_library, kind, bits_of(root));
 }
 
-static void compare(uint64_t bits) { expect(bits, library_kind(value_of(bits))); }
+static void compare(uint64_t bits) { expect(bits, c_library_kind(value_of(bits))); }
 
 // ---- the groups
 
-// Each row of IEEE 754's table: the first and the last exponent field, the first and the last fraction, and the kind.
-static const struct {
-    uint64_t first_field, last_field, first_fraction, last_fraction, kind;
-} rows[] = {
-    {0, 0, 0, 0, ZERO},
-    {0, 0, 1, UINT64_C(0xFFFFFFFFFFFFF), SUBNORMAL},
-    {1, 2046, 0, 0, NORMAL},
-    {1, 2046, 1, UINT64_C(0xFFFFFFFFFFFFF), NORMAL},
-    {2047, 2047, 0, 0, INFINITE},
-    {2047, 2047, 1, UINT64_C(0xFFFFFFFFFFFFF), A_NAN},
+// A row of IEEE 754's table: exponent fields from first to last, fractions that are zero or that are not, and the kind.
+typedef struct {
+    uint64_t first, last;
+    bool zero_fraction;
+    uint64_t kind;
+} row;
+
+static const row rows[] = {
+    {0, 0, true, ZERO},
+    {0, 0, false, SUBNORMAL},
+    {1, 2046, true, NORMAL},
+    {1, 2046, false, NORMAL},
+    {2047, 2047, true, INFINITE},
+    {2047, 2047, false, A_NAN},
 };
 
+enum { ROWS = sizeof rows / sizeof rows[0] };
+
+static void with_both_signs(uint64_t bits, uint64_t kind) {
+    expect(bits, kind);
+    expect(SIGN | bits, kind);
+}
+
 static void first_and_last(void) {
-    for (size_t r = 0; r < sizeof rows / sizeof rows[0]; r++)
-        for (uint64_t corner = 0; corner < 8; corner++) {
-            uint64_t field = corner & 1 ? rows[r].last_field : rows[r].first_field;
-            uint64_t digits = corner & 2 ? rows[r].last_fraction : rows[r].first_fraction;
-            expect((corner & 4 ? SIGN : 0) | pattern(field, digits), rows[r].kind);
-        }
+    for (size_t r = 0; r < ROWS; r++) {
+        uint64_t first = rows[r].zero_fraction ? 0 : 1, last = rows[r].zero_fraction ? 0 : LEADING - 1;
+        with_both_signs(pattern(rows[r].first, first), rows[r].kind);
+        with_both_signs(pattern(rows[r].last, last), rows[r].kind);
+    }
 }
 
 static void every_field(void) {
@@ -75,13 +86,13 @@ static void random_patterns(void) {
     for (unsigned k = 0; k < RANDOM; k++) compare(random_bits(64));
 }
 
-// A random row first, so that every kind comes as often as the rows have it.
+// A random row first, so that every row comes as often as the others.
 static void random_rows(void) {
     for (unsigned k = 0; k < RANDOM; k++) {
-        size_t r = random_bits(32) % (sizeof rows / sizeof rows[0]);
-        uint64_t field = rows[r].first_field + random_bits(32) % (rows[r].last_field - rows[r].first_field + 1);
-        uint64_t digits = rows[r].first_fraction + random_bits(64) % (rows[r].last_fraction - rows[r].first_fraction + 1);
-        expect(random_bits(1) << 63 | pattern(field, digits), rows[r].kind);
+        row r = rows[random_bits(32) % ROWS];
+        uint64_t field = r.first + random_bits(32) % (r.last - r.first + 1);
+        uint64_t fraction = r.zero_fraction ? 0 : 1 + random_bits(64) % (LEADING - 1);
+        expect(random_bits(1) << 63 | pattern(field, fraction), r.kind);
     }
 }
 

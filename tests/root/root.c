@@ -11,7 +11,6 @@ enum {
     NEAR = 64,      // neighbours on either side of a power of two
 };
 
-static const uint64_t LEADING = UINT64_C(1) << FRACTION;
 static const uint64_t INFINITE = (uint64_t)FIELD_MAX << FRACTION;
 static const uint64_t QUIET_NAN = UINT64_C(0xFFF) << (FRACTION - 1);
 

@@ -10,7 +10,7 @@ use lib.Pow.{pow-pos, split}
 use lib.IntN.{ℤ}
 use lib.Ieee.{Float, nan, inf, fin, binary64, up, down, lt, toBits, ofBits, fits}
 use lib.Ieee.Fits.{up-pos}
-use lib.Ieee.Scale.{finite as number}
+use lib.Ieee.Scale.{finite as libraryFinite}
 use borrow.Author.Tests.{lt-ltb, ne-eqb}
 use Rattle.binary64.specs.declared.Pivot.the-variants.{Root, Refused}
 use Rattle.binary64.specs.declared.kinds.Kind.{Kind}
@@ -37,7 +37,7 @@ formerRoot (fin true (suc m) e) = nan
 formerRoot (fin false (suc m) e) = ofBits binary64 (formerRootBits (toBits binary64 (fin false (suc m) e)))
 
 pub record AsBefore (x : Float) : Type 0 where
-  pub finiteAs : finite x ≡ number x
+  pub finiteAs : finite x ≡ libraryFinite x
   pub positiveAs : positive x ≡ lt zero64 x
   pub rootAs : root x ≡ formerRoot x
   pub judgedAs : judged x ≡ cond (lt zero64 x) (Root (formerRoot x)) (Refused x)

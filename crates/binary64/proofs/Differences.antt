@@ -14,9 +14,9 @@ use lib.Ieee.Digits.{back}
 use lib.Ieee.Fits.{down-pos, and-l, and-r, round-is}
 use lib.Ieee.Exact.{HasValue, odd-sign, round-exact}
 use lib.Ieee.Order.{round-mono}
-use lib.Ieee.Scale.{finite as number}
+use lib.Ieee.Scale.{finite as libraryFinite}
 use Rattle.binary64.specs.Kinds.{finite, positive}
-use Rattle.binary64.proofs.Values.{finite-number, number-finite, number-of-value}
+use Rattle.binary64.proofs.Values.{finite-library, library-finite, library-of-value}
 
 -- ---- the values below +infinity: finite or −infinity, and no NaN
 
@@ -28,25 +28,25 @@ unfolding belowInfinity lt
 below-cases nan f h = absurd h
 below-cases (inf true) f h = inr refl
 below-cases (inf false) f h = absurd h
-below-cases (fin s m e) f h = inl (number-finite (fin s m e) f tt)
+below-cases (fin s m e) f h = inl (library-finite (fin s m e) f tt)
 
 pub below-finite : (x : Float) → T (fits binary64 x) → T (belowInfinity x) → T (positive x) → T (finite x)
 unfolding belowInfinity positive lt
 below-finite nan f h p = absurd h
 below-finite (inf true) f h p = absurd p
 below-finite (inf false) f h p = absurd h
-below-finite (fin s m e) f h p = number-finite (fin s m e) f tt
+below-finite (fin s m e) f h p = library-finite (fin s m e) f tt
 
-number-below : (x : Float) → T (number x) → T (belowInfinity x)
+library-below : (x : Float) → T (libraryFinite x) → T (belowInfinity x)
 unfolding belowInfinity lt
-number-below nan h = absurd h
-number-below (inf s) h = absurd h
-number-below (fin s m e) h = tt
+library-below nan h = absurd h
+library-below (inf s) h = absurd h
+library-below (fin s m e) h = tt
 
 pub finite-below : (x : Float) → T (finite x) → T (belowInfinity x)
-finite-below x h = number-below x (finite-number x h)
+finite-below x h = library-below x (finite-library x h)
 
-below-of-le : (x y : Float) → T (le x y) → T (number y) → T (belowInfinity x)
+below-of-le : (x y : Float) → T (le x y) → T (libraryFinite y) → T (belowInfinity x)
 unfolding belowInfinity le
 below-of-le nan y h k = absurd h
 below-of-le (inf true) y h k = tt
@@ -79,7 +79,7 @@ units-sign f s q k = go (ltb (q * 2 ^ k) (2 ^ (low f + suc (emax f))))
 round-sign : (f : Format) (s : Bool) (a c : ℕ) → HasSign (round f s a c) s
 round-sign f s a c = rw round-is (units-sign f s _ _)
 
-square-sign : (f : Format) (x : Float) → T (number x) → HasSign (mul f x x) false
+square-sign : (f : Format) (x : Float) → T (libraryFinite x) → HasSign (mul f x x) false
 unfolding mul
 square-sign f nan h = absurd h
 square-sign f (inf s) h = absurd h
@@ -88,7 +88,7 @@ square-sign f (fin false m e) h = round-sign f false (m * up e * (m * up e)) (do
 
 -- ---- a value that its format holds is not changed by rounding
 
--- 2 ^ e as a number of units of 2 ^ -l
+-- 2 ^ e as a libraryFinite of units of 2 ^ -l
 in-units : (l : ℕ) (e : ℤ) → down e ≤ 2 ^ l → (j : ℕ) × (up e * 2 ^ l ≡ 2 ^ j * down e)
 in-units l (pos k) h = (k + l, sym (mul-one (2 ^ (k + l)) ∙ pow-add 2 k l))
 in-units l (negsuc k) h =
@@ -136,7 +136,7 @@ round-below : (f : Format) (m : ℕ) (e : ℤ) (a c : ℕ)
     → T (belowInfinity (round f false a c))
 round-below f m e a c h C k =
     below-of-le (round f false a c) (round f false (m * up e) (down e)) (round-mono f a c (m * up e) (down e) C (down-pos e) k)
-    (number-of-value (round f false (m * up e) (down e)) false (m * up e) (down e) (fits-exact f false m e h))
+    (library-of-value (round f false (m * up e) (down e)) false (m * up e) (down e) (fits-exact f false m e h))
 
 minus-below : (x : Float) → HasSign x true → T (belowInfinity x)
 unfolding belowInfinity lt
@@ -178,4 +178,4 @@ pub difference-below : (s x : Float)
     → T (belowInfinity s)
     → T (finite x)
     → T (belowInfinity (sub binary64 s (mul binary64 x x)))
-difference-below s x h k g = sub-below binary64 s (mul binary64 x x) h k (square-sign binary64 x (finite-number x g))
+difference-below s x h k g = sub-below binary64 s (mul binary64 x x) h k (square-sign binary64 x (finite-library x g))

@@ -9,9 +9,9 @@ use Rattle.binary64.specs.declared.kinds.Kind.the-variants.{Zero, Subnor
 use Rattle.binary64.specs.Kinds.{kindOfBits, kind, kindNumber}
 use Rattle.binary64.specs.Root.{root}
 
--- a pattern and its kind, which is its value's kind too
-hasKind : ℕ → Kind → Bool
-hasKind p k = eqb (kindNumber (kindOfBits p)) (kindNumber k) && eqb (kindNumber (kind (ofBits binary64 p))) (kindNumber k)
+-- a pattern and its kind with that kind's number; its value has the same kind
+hasKind : ℕ → Kind → ℕ → Bool
+hasKind p k number = eqb (kindNumber (kindOfBits p)) number && eqb (kindNumber (kind (ofBits binary64 p))) number && eqb (kindNumber k) number
 
 -- the bits of an argument and of its root
 hasRoot : ℕ → ℕ → Bool
@@ -21,26 +21,26 @@ pub rows : List Bool
 unfolding hasKind hasRoot
 rows =
     -- the first and the last pattern of each kind, and of the normal ones those of either kind of fraction, with each sign
-    hasKind 0x0000_0000_0000_0000 Zero
-    ∷ hasKind 0x8000_0000_0000_0000 Zero
-    ∷ hasKind 0x0000_0000_0000_0001 Subnormal
-    ∷ hasKind 0x000F_FFFF_FFFF_FFFF Subnormal
-    ∷ hasKind 0x8000_0000_0000_0001 Subnormal
-    ∷ hasKind 0x800F_FFFF_FFFF_FFFF Subnormal
-    ∷ hasKind 0x0010_0000_0000_0000 Normal
-    ∷ hasKind 0x0010_0000_0000_0001 Normal
-    ∷ hasKind 0x7FE0_0000_0000_0000 Normal
-    ∷ hasKind 0x7FEF_FFFF_FFFF_FFFF Normal
-    ∷ hasKind 0x8010_0000_0000_0000 Normal
-    ∷ hasKind 0x8010_0000_0000_0001 Normal
-    ∷ hasKind 0xFFE0_0000_0000_0000 Normal
-    ∷ hasKind 0xFFEF_FFFF_FFFF_FFFF Normal
-    ∷ hasKind 0x7FF0_0000_0000_0000 Infinite
-    ∷ hasKind 0xFFF0_0000_0000_0000 Infinite
-    ∷ hasKind 0x7FF0_0000_0000_0001 NaN
-    ∷ hasKind 0x7FFF_FFFF_FFFF_FFFF NaN
-    ∷ hasKind 0xFFF0_0000_0000_0001 NaN
-    ∷ hasKind 0xFFFF_FFFF_FFFF_FFFF NaN
+    hasKind 0x0000_0000_0000_0000 Zero 0
+    ∷ hasKind 0x8000_0000_0000_0000 Zero 0
+    ∷ hasKind 0x0000_0000_0000_0001 Subnormal 1
+    ∷ hasKind 0x000F_FFFF_FFFF_FFFF Subnormal 1
+    ∷ hasKind 0x8000_0000_0000_0001 Subnormal 1
+    ∷ hasKind 0x800F_FFFF_FFFF_FFFF Subnormal 1
+    ∷ hasKind 0x0010_0000_0000_0000 Normal 2
+    ∷ hasKind 0x0010_0000_0000_0001 Normal 2
+    ∷ hasKind 0x7FE0_0000_0000_0000 Normal 2
+    ∷ hasKind 0x7FEF_FFFF_FFFF_FFFF Normal 2
+    ∷ hasKind 0x8010_0000_0000_0000 Normal 2
+    ∷ hasKind 0x8010_0000_0000_0001 Normal 2
+    ∷ hasKind 0xFFE0_0000_0000_0000 Normal 2
+    ∷ hasKind 0xFFEF_FFFF_FFFF_FFFF Normal 2
+    ∷ hasKind 0x7FF0_0000_0000_0000 Infinite 3
+    ∷ hasKind 0xFFF0_0000_0000_0000 Infinite 3
+    ∷ hasKind 0x7FF0_0000_0000_0001 NaN 4
+    ∷ hasKind 0x7FFF_FFFF_FFFF_FFFF NaN 4
+    ∷ hasKind 0xFFF0_0000_0000_0001 NaN 4
+    ∷ hasKind 0xFFFF_FFFF_FFFF_FFFF NaN 4
     -- document 01's roots
     ∷ hasRoot 0x0000_0000_0000_0001 0x1E60_0000_0000_0000
     ∷ hasRoot 0x3FEF_FFFF_FFFF_FFFF 0x3FEF_FFFF_FFFF_FFFF

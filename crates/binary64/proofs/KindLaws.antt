@@ -47,7 +47,7 @@ pub kind-nan : (t : ℕ) → 0 < t → kindOfFields 2047 t ≡ NaN
 unfolding kindOfFields
 kind-nan t h = rw (some-fraction t h)
 
--- the other way: what a kind says of them
+-- the other way: what a kind says of them, each kind's numbers
 pub data Case : ℕ → ℕ → Kind → Type 0 where
   zero-case : Case 0 0 Zero
   subnormal-case : {t : ℕ} → 0 < t → Case 0 t Subnormal
@@ -92,7 +92,7 @@ pub fraction-is : (x t : ℕ) → t < 2 ^ 52 → fraction (x * 2 ^ 52 + t) ≡ t
 unfolding fraction
 fraction-is x t h = omega arith
 
--- ---- every pattern falls under exactly one case
+-- ---- every pattern falls under exactly one case, whose row gives its kind, and that is the kind of its numbers
 
 abbrev pub InField : FieldKind → ℕ → Type 0
 InField allZeros x = x ≡ 0
@@ -104,15 +104,16 @@ InFraction zeroFraction t = t ≡ 0
 InFraction nonzeroFraction t = 0 < t
 
 pub record Under (p : ℕ) (f : FieldKind) (k : FractionKind) : Type 0 where
-  pub field : InField f (exponentField p)
-  pub digits : InFraction k (fraction p)
+  pub inField : InField f (exponentField p)
+  pub inFraction : InFraction k (fraction p)
 
 pub record OneCase (p : ℕ) : Type 0 where
-  pub field : FieldKind
-  pub digits : FractionKind
-  pub under : Under p field digits
-  pub only : (f : FieldKind) (k : FractionKind) → Under p f k → (f ≡ field) × (k ≡ digits)
-  pub kind : kindOfBits p ≡ kindOf field digits
+  pub ofField : FieldKind
+  pub ofFraction : FractionKind
+  pub under : Under p ofField ofFraction
+  pub only : (f : FieldKind) (k : FractionKind) → Under p f k → (f ≡ ofField) × (k ≡ ofFraction)
+  pub row : kindOfBits p ≡ kindOf ofField ofFraction
+  pub answer : Case (exponentField p) (fraction p) (kindOfBits p)
 
 in-field : (x : ℕ) → x ≤ 2047 → InField (fieldKind x) x
 unfolding fieldKind
@@ -142,11 +143,12 @@ pub one-case : (p : ℕ) → OneCase p
 unfolding exponentField kindOfBits
 one-case p =
     record {
-      field = fieldKind (exponentField p);
-      digits = fractionKind (fraction p);
-      under = record { field = in-field (exponentField p) (omega arith); digits = in-fraction (fraction p) };
-      only = λ f k u. (only-field (exponentField p) f (u .field), only-fraction (fraction p) k (u .digits));
-      kind = refl;
+      ofField = fieldKind (exponentField p);
+      ofFraction = fractionKind (fraction p);
+      under = record { inField = in-field (exponentField p) (omega arith); inFraction = in-fraction (fraction p) };
+      only = λ f k u. (only-field (exponentField p) f (u .inField), only-fraction (fraction p) k (u .inFraction));
+      row = refl;
+      answer = pattern-case p;
     }
 
 -- ---- the kind of a value is that of its pattern

@@ -12,7 +12,7 @@ use Rattle.binary64.proofs.Magnitudes.{magnitude-is, magnitude-before-p
 use Rattle.binary64.proofs.Normalising.{normalised}
 use Rattle.binary64.proofs.IntegerRoots.{integer-root}
 use Rattle.binary64.proofs.Rounding.{radicand, rounded-rule, rounded-root, rounded-range}
--- MidpointRule p r, for an r below 2 ^ 63, gives r ≡ rootBits p
+-- MidpointRule p r, for p and r below 2 ^ 63, gives r ≡ rootBits p
 pub use Rattle.binary64.proofs.Bisection.{root-unique}
 
 module _ (p : ℕ) (pattern : PositiveFinite p) where

@@ -108,7 +108,7 @@ normal-range p h e = omega (arith, normal-fields p e)
 -- ---- any
 
 pub normalised : (p : ℕ) → PositiveFinite p → (s : ℕ) × (x : ℕ) × Normalised p s x
-normalised p w = elim (w .kind) [
+normalised p w = elim (w .subnormalOrNormal) [
   | inl e ↦
       let range : (0 < p) × (p < 2 ^ 52) = subnormal-range p (w .unsigned) e in
       (p * 2 ^ shift p, 1076 - shift p, normalised-subnormal p (range .0) (range .1))

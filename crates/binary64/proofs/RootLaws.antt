@@ -10,7 +10,7 @@ use lib.Ieee.{Float, nan, inf, fin, binary64, up, down, lt, toBits, ofBits, fits
 use lib.Ieee.Bits.{is-true, ofBits-fits, toBits-ofBits, nanBits-is}
 use lib.Ieee.Exact.{HasValue}
 use lib.Ieee.Positive as ieee
-use lib.Ieee.Scale.{finite as number}
+use lib.Ieee.Scale.{finite as libraryFinite}
 use lib.Ieee.Positive.{first-pos}
 use Rattle.binary64.specs.declared.kinds.Kind.{Kind}
 use Rattle.binary64.specs.declared.kinds.Kind.the-variants.{Subnormal, Normal}
@@ -18,28 +18,28 @@ use Rattle.binary64.specs.Kinds.{kind, finite, positive}
 use Rattle.binary64.specs.Root.{magnitude, MidpointRule, rootBits, rootBy, root}
 use Rattle.binary64.specs.RootSteps.{PositiveFinite}
 use Rattle.binary64.proofs.Midpoints.{root-range, root-rule}
-use Rattle.binary64.proofs.Values.{Value, zero-value, subnormal-value, normal-value, value-case, finite-number, number-finite, number-of-value, pattern-value, pattern-number, bits-range}
+use Rattle.binary64.proofs.Values.{Value, zero-value, subnormal-value, normal-value, value-case, finite-library, library-finite, library-of-value, pattern-value, pattern-number, bits-range}
 
 -- ---- greater than zero and finite
 
-positive-number : (x : Float) → T (number x) → T (positive x) → T (ieee.positive x)
+positive-library : (x : Float) → T (libraryFinite x) → T (positive x) → T (ieee.positive x)
 unfolding positive lt
-positive-number nan f h = absurd f
-positive-number (inf s) f h = absurd f
-positive-number (fin true m e) f h = absurd h
-positive-number (fin false m e) f h =
+positive-library nan f h = absurd f
+positive-library (inf s) f h = absurd f
+positive-library (fin true m e) f h = absurd h
+positive-library (fin false m e) f h =
     lt→ltb 0 m (first-pos m (up e) (first-pos (m * up e) 1 (lt-of-le-of-lt zero-le (ltb→lt (0 * 1 * down e) (m * up e * 1) h))))
 
 positive-finite : (x : Float) → T (finite x) → T (positive x) → T (ieee.positive x)
-positive-finite x f h = positive-number x (finite-number x f) h
+positive-finite x f h = positive-library x (finite-library x f) h
 
 -- ---- the root of a positive finite value
 
-number-kind : (x : Float) (κ : Kind) → Value x κ → T (ieee.positive x) → (κ ≡ Subnormal) ⊎ (κ ≡ Normal)
-number-kind x κ (zero-value {s = true}) h = absurd h
-number-kind x κ (zero-value {s = false}) h = absurd h
-number-kind x κ subnormal-value h = inl refl
-number-kind x κ normal-value h = inr refl
+positive-kind : (x : Float) (κ : Kind) → Value x κ → T (ieee.positive x) → (κ ≡ Subnormal) ⊎ (κ ≡ Normal)
+positive-kind x κ (zero-value {s = true}) h = absurd h
+positive-kind x κ (zero-value {s = false}) h = absurd h
+positive-kind x κ subnormal-value h = inl refl
+positive-kind x κ normal-value h = inr refl
 
 rooted : (κ : Kind) (above : Bool) (x : Float) → (κ ≡ Subnormal) ⊎ (κ ≡ Normal) → above ≡ true → rootBy κ above x ≡ ofBits binary64 (rootBits (toBits binary64 x))
 unfolding rootBy
@@ -48,7 +48,7 @@ rooted κ above x (inr e) a = rw (e, a) refl
 
 pub root-is : (x : Float) → T (fits binary64 x) → T (finite x) → T (positive x) → root x ≡ ofBits binary64 (rootBits (toBits binary64 x))
 unfolding root
-root-is x f g h = rooted (kind x) (positive x) x (number-kind x (kind x) (value-case x f) (positive-finite x g h)) (is-true (positive x) h)
+root-is x f g h = rooted (kind x) (positive x) x (positive-kind x (kind x) (value-case x f) (positive-finite x g h)) (is-true (positive x) h)
 
 module _ (x : Float) (f : T (fits binary64 x)) (g : T (finite x)) (h : T (positive x)) where
   pub positive-pattern : PositiveFinite (toBits binary64 x)
@@ -56,7 +56,7 @@ module _ (x : Float) (f : T (fits binary64 x)) (g : T (finite x)) (h : T (positi
   positive-pattern =
       let p = positive-finite x g h in
       let below : toBits binary64 x < 2047 * 2 ^ 52 = bits-range x f p .1 in
-      record { unsigned = omega arith; kind = number-kind x (kind x) (value-case x f) p }
+      record { unsigned = omega arith; subnormalOrNormal = positive-kind x (kind x) (value-case x f) p }
 
   pub root-below : rootBits (toBits binary64 x) < 2047 * 2 ^ 52
   root-below = root-range (toBits binary64 x) positive-pattern .1
@@ -70,7 +70,7 @@ module _ (x : Float) (f : T (fits binary64 x)) (g : T (finite x)) (h : T (positi
   pub root-finite : T (finite (root x))
   root-finite =
       let fit : T (fits binary64 (root x)) = subst (λ (y : Float). T (fits binary64 y)) (sym (root-is x f g h)) (ofBits-fits binary64 (rootBits (toBits binary64 x))) in
-      number-finite (root x) fit (number-of-value (root x) false (magnitude (rootBits (toBits binary64 x))) (2 ^ 1074) root-value)
+      library-finite (root x) fit (library-of-value (root x) false (magnitude (rootBits (toBits binary64 x))) (2 ^ 1074) root-value)
 
   -- its pattern, and document 01's rule of the value and its root
   root-bits : toBits binary64 (root x) ≡ rootBits (toBits binary64 x)

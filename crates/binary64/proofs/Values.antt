@@ -1,5 +1,5 @@
--- What a pattern's value is as a float, which patterns the positive finite floats have, and which floats a kind has. `positive` is here the library's, without +infinity.
--- Assumes nothing.
+-- What a pattern's value is as a float, which patterns the positive finite floats have, and which floats a kind has. `positive` is here the library's,
+-- without +infinity. Assumes nothing.
 use mathlib.Core.Path.{_≡_, refl, sym, ap, _∙_, subst}
 use mathlib.Core.Bool.{Bool, true, false, not, cond}
 use Prim.Native.Nat.{ℕ, zero, suc, _+_, _*_, _/_, _%_, _^_, _<_}
@@ -13,7 +13,7 @@ use lib.Ieee.Fits.{down-pos}
 use lib.Ieee.Exact.{HasValue, odd-sign}
 use lib.Ieee.Bits.{ofBits-toBits, toBits-lt, nanBits-is}
 use lib.Ieee.Positive.{positive}
-use lib.Ieee.Scale.{finite as number}
+use lib.Ieee.Scale.{finite as libraryFinite}
 use borrow.Author.Tests.{lt-leb, leb-false, ne-eqb, eqb-false}
 use Rattle.binary64.specs.declared.kinds.Kind.{Kind}
 use Rattle.binary64.specs.declared.kinds.Kind.the-variants.{Zero, Subnormal, Normal, Infinite, NaN}
@@ -138,16 +138,16 @@ number-of-kind (fin s m e) n = tt
 
 -- ---- finite, by kind and by the library's test
 
-pub number-of-value : (x : Float) (s : Bool) (a c : ℕ) → HasValue x s a c → T (number x)
-number-of-value nan s a c v = absurd v
-number-of-value (inf t) s a c v = absurd v
-number-of-value (fin t m e) s a c v = tt
+pub library-of-value : (x : Float) (s : Bool) (a c : ℕ) → HasValue x s a c → T (libraryFinite x)
+library-of-value nan s a c v = absurd v
+library-of-value (inf t) s a c v = absurd v
+library-of-value (fin t m e) s a c v = tt
 
-pub finite-as : (x : Float) → T (fits binary64 x) → finite x ≡ number x
+pub finite-as : (x : Float) → T (fits binary64 x) → finite x ≡ libraryFinite x
 unfolding finite
 finite-as x f = go x (kind x) (value-case x f)
   where
-    go : (x : Float) (κ : Kind) → Value x κ → finiteKind κ ≡ number x
+    go : (x : Float) (κ : Kind) → Value x κ → finiteKind κ ≡ libraryFinite x
     go x κ zero-value = refl
     go x κ subnormal-value = refl
     go x κ normal-value = refl
@@ -155,12 +155,12 @@ finite-as x f = go x (kind x) (value-case x f)
     go x κ nan-value = refl
 
 -- this way of every float, whether the format holds it or not
-pub finite-number : (x : Float) → T (finite x) → T (number x)
+pub finite-library : (x : Float) → T (finite x) → T (libraryFinite x)
 unfolding finite kind
-finite-number nan h = h
-finite-number (inf true) h = h
-finite-number (inf false) h = h
-finite-number (fin s m e) h = tt
+finite-library nan h = h
+finite-library (inf true) h = h
+finite-library (inf false) h = h
+finite-library (fin s m e) h = tt
 
-pub number-finite : (x : Float) → T (fits binary64 x) → T (number x) → T (finite x)
-number-finite x f h = subst T (sym (finite-as x f)) h
+pub library-finite : (x : Float) → T (fits binary64 x) → T (libraryFinite x) → T (finite x)
+library-finite x f h = subst T (sym (finite-as x f)) h

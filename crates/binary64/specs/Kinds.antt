@@ -70,7 +70,7 @@ zero64 = fin false 0 (pos 0)
 unfoldable pub positive : Float → Bool
 positive x = lt zero64 x
 
--- a kind's number, for other languages
+-- a kind's number, for the tests in C
 abbrev pub kindNumber : Kind → ℕ
 kindNumber Zero = 0
 kindNumber Subnormal = 1

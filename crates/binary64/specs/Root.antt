@@ -7,15 +7,16 @@ use Rattle.binary64.specs.declared.kinds.Kind.{Kind}
 use Rattle.binary64.specs.declared.kinds.Kind.the-variants.{Zero, Subnormal, Normal, Infinite, NaN}
 use Rattle.binary64.specs.Kinds.{exponentField, fraction, kindOfBits, kind, positive}
 
--- The size of pattern p's value in units of 2^−1074, the smallest positive value: a subnormal has no leading digit and the exponent of field 1.
--- Past the finite patterns it goes on by the same formula: the next after the greatest finite one stands for 2^1024.
+-- The size of a value of exponent field x and fraction t, in units of 2^−1074, the smallest positive value: a subnormal has no leading digit and the
+-- exponent of field 1. Past the finite patterns it goes on by the same formula: the next after the greatest finite one stands for 2^1024.
 unfoldable pub inUnits : Kind → ℕ → ℕ → ℕ
-inUnits Zero field digits = 0
-inUnits Subnormal field digits = digits
-inUnits Normal field digits = (2 ^ 52 + digits) * 2 ^ (field - 1)
-inUnits Infinite field digits = (2 ^ 52 + digits) * 2 ^ (field - 1)
-inUnits NaN field digits = (2 ^ 52 + digits) * 2 ^ (field - 1)
+inUnits Zero x t = 0
+inUnits Subnormal x t = t
+inUnits Normal x t = (2 ^ 52 + t) * 2 ^ (x - 1)
+inUnits Infinite x t = (2 ^ 52 + t) * 2 ^ (x - 1)
+inUnits NaN x t = (2 ^ 52 + t) * 2 ^ (x - 1)
 
+-- the size of pattern p's value
 unfoldable pub magnitude : ℕ → ℕ
 unfolding inUnits kindOfBits exponentField fraction
 magnitude p = inUnits (kindOfBits p) (exponentField p) (fraction p)

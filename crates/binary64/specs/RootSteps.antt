@@ -11,7 +11,7 @@ use Rattle.binary64.specs.Root.{magnitude, scaled, rootBits}
 -- the pattern of a value above zero that is finite
 pub record PositiveFinite (p : ℕ) : Type 0 where
   pub unsigned : p < 2 ^ 63
-  pub kind : (kindOfBits p ≡ Subnormal) ⊎ (kindOfBits p ≡ Normal)
+  pub subnormalOrNormal : (kindOfBits p ≡ Subnormal) ⊎ (kindOfBits p ≡ Normal)
 
 -- a significand of 53 digits and an exponent for pattern p's value on the scale of `scaled`
 pub record Normalised (p significand exponent : ℕ) : Type 0 where

@@ -62,7 +62,7 @@ fn kind_number(kind: Kind) -> u64
     }
 }
 
-// `kind_of` and `kind_of_bits` for other languages.
+// `kind_of` and `kind_of_bits` for the tests in C.
 #[no_mangle]
 pub extern "C" fn metsovary_kind(x: f64) -> u64
     ensures { λ r. ⌜ r ≡ kindNumber (kind x) ⌝ }

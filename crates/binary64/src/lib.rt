@@ -35,16 +35,12 @@ pub fn square_root(x: f64) -> f64
         Kind::Subnormal | Kind::Normal => {
             if x > 0.0 {
                 let found = root::root_of_bits(f64::to_bits(x));
-                return f64::from_bits(found.bits);
+                f64::from_bits(found.bits)
+            } else {
+                0.0 / 0.0
             }
-            0.0 / 0.0
         }
-        Kind::Infinite => {
-            if x > 0.0 {
-                return x;
-            }
-            0.0 / 0.0
-        }
+        Kind::Infinite => { if x > 0.0 { x } else { 0.0 / 0.0 } }
     }
 }
 

@@ -24,7 +24,7 @@ pub struct Found {
 }
 
 // The pattern's value on the scale of `scaled`. A subnormal's fraction is brought to 53 digits: its leading zeros beyond 11 give the shift,
-// by which the exponent is less.
+// by which the exponent is less. The other patterns that the contract lets in are normal, and without a sign the quotient is the exponent field.
 fn normalise(bits: u64) -> Scaled
     requires { ⌜ PositiveFinite bits ⌝ }
     ensures { λ r. ⌜ Normalised bits (r .significand) (r .exponent) ⌝ }

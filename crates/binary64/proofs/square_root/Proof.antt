@@ -111,27 +111,27 @@ float-from-bits-result c =
     root-number (start .args .x) (second-kind (c .before .before .before)) (is-true (start .good .0 .1)) (is-above (c .before .before))
     (c .before .root-of-bits .result .bits) (c .before .root-of-bits .ensures .bits)
 
+enum-told : tie.Need-enum-told
+enum-told c = search needs
+
 returns : tie.Need-returns
 returns c =
+    itself (c .before .before .args .x) (is-true (c .before .before .good .0 .1))
+    (subst (λ κ. (κ ≡ Zero) ⊎ (κ ≡ NaN)) (c .before .kind-of .ensures) (first-arm (c .before .kind-of .result) (c .match .keys1)))
+
+returns-2 : tie.Need-returns-2
+returns-2 c =
     let start = c .before .before .before .before .before in
     ap (ofBits binary64) (c .before .root-of-bits .ensures .bits)
     ∙ sym (rooted (start .args .x) (second-kind (c .before .before .before)) (is-true (start .good .0 .1)) (is-above (c .before .before)))
 
-enum-told : tie.Need-enum-told
-enum-told c = search needs
-
-returns-2 : tie.Need-returns-2
-unfolding ofBits positive
-returns-2 c = infinite-root (c .before .before .before .before .args .x) (third-kind (c .before)) (c .if2 .taken)
-
 returns-3 : tie.Need-returns-3
-returns-3 c =
-    itself (c .before .before .args .x) (is-true (c .before .before .good .0 .1))
-    (subst (λ κ. (κ ≡ Zero) ⊎ (κ ≡ NaN)) (c .before .kind-of .ensures) (first-arm (c .before .kind-of .result) (c .match .keys1)))
+unfolding ofBits div positive
+returns-3 c = below-root (c .before .before .before .args .x) (second-kind (c .before)) (c .if1 .left)
 
 returns-4 : tie.Need-returns-4
-unfolding ofBits div positive
-returns-4 c = below-root (c .before .before .before .args .x) (second-kind (c .before)) (c .if1 .left)
+unfolding ofBits positive
+returns-4 c = infinite-root (c .before .before .before .before .args .x) (third-kind (c .before)) (c .if2 .taken)
 
 returns-5 : tie.Need-returns-5
 unfolding ofBits div positive
@@ -145,8 +145,8 @@ square-root-spec =
     float-to-bits-root-of-bits
     root-of-bits-requires
     float-from-bits-result
-    returns
     enum-told
+    returns
     returns-2
     returns-3
     returns-4

@@ -39,7 +39,7 @@ module _ (p : ℕ) (pre : PositiveFinite p) where
 
   -- the second
   not-subnormal : OneOf (0 ∷ 2 ∷ 3 ∷ 4 ∷ []) (tagOf the-type (kindOfBits p)) → kindOfBits p ≡ Normal
-  not-subnormal h = go (pre .kind)
+  not-subnormal h = go (pre .subnormalOrNormal)
     where
       go : (kindOfBits p ≡ Subnormal) ⊎ (kindOfBits p ≡ Normal) → kindOfBits p ≡ Normal
       go (inl e) = absurd (miss (0 ∷ 2 ∷ 3 ∷ 4 ∷ []) 1 tt (subst (λ κ. OneOf (0 ∷ 2 ∷ 3 ∷ 4 ∷ []) (tagOf the-type κ)) e h))
