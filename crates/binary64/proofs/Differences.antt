@@ -88,7 +88,7 @@ square-sign f (fin false m e) h = round-sign f false (m * up e * (m * up e)) (do
 
 -- ---- a value that its format holds is not changed by rounding
 
--- 2 ^ e as a libraryFinite of units of 2 ^ -l
+-- 2 ^ e as a number of units of 2 ^ -l
 in-units : (l : ℕ) (e : ℤ) → down e ≤ 2 ^ l → (j : ℕ) × (up e * 2 ^ l ≡ 2 ^ j * down e)
 in-units l (pos k) h = (k + l, sym (mul-one (2 ^ (k + l)) ∙ pow-add 2 k l))
 in-units l (negsuc k) h =

@@ -5,13 +5,19 @@ use native.Mathlib.Decide.{decLe}
 use native.Mathlib.Omega.{arith}
 use mathlib.Core.Path.{_≡_, refl, sym, ap, _∙_, subst}
 use mathlib.Core.Bool.{Bool, true, false, not, _&&_, cond, true≢false}
+use mathlib.Core.List.{List}
 use lib.Dec.{T, eqb}
+use lib.Pow.{low as low-digits}
 use lib.Ieee.{Float, nan, inf, fin, binary64, toBits, ofBits, isNan, nanBits}
 use lib.Ieee.Bits.{toBits-ofBits, nanBits-is}
+use types.Run.{OneOf, miss}
+use mir.Val.{hasKey}
+use denote.Enum.Declared.{tagOf}
 use borrow.Author.Tests.{lt-ltb, ne-eqb, eqb-true, eqb-false}
 use Rattle.binary64.specs.declared.kinds.Kind.{Kind}
 use Rattle.binary64.specs.declared.kinds.Kind.the-variants.{Zero, Subnormal, Normal, Infinite, NaN}
 use Rattle.binary64.specs.Kinds.{exponentField, fraction, FieldKind, allZeros, between, allOnes, fieldKind, FractionKind, zeroFraction, nonzeroFraction, fractionKind, kindOf, kindOfFields, kindOfBits, kind}
+use Rattle.binary64.proofs.kinds.Kind.{the-type}
 
 -- ---- the kind of a field x and a fraction t
 
@@ -90,7 +96,12 @@ field-is x t h l = omega arith
 
 pub fraction-is : (x t : ℕ) → t < 2 ^ 52 → fraction (x * 2 ^ 52 + t) ≡ t
 unfolding fraction
-fraction-is x t h = omega arith
+fraction-is x t h = low-digits x 52 h
+
+-- ---- a match: an arm for other variants is not taken for this one
+
+pub other-arm : (tags : List ℕ) (κ other : Kind) → T (not (hasKey tags (tagOf the-type other))) → OneOf tags (tagOf the-type κ) → ¬ (κ ≡ other)
+other-arm tags κ other n h e = miss tags (tagOf the-type other) n (subst (λ k. OneOf tags (tagOf the-type k)) e h)
 
 -- ---- every pattern falls under exactly one case, whose row gives its kind, and that is the kind of its numbers
 

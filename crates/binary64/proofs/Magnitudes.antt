@@ -7,7 +7,7 @@ use native.Mathlib.Nat.{zero-lt-suc, le-of-lt, le-of-eq, lt-of-not-le, add-zero,
 use native.Mathlib.Decide.{decLe}
 use native.Mathlib.Omega.{arith}
 use lib.Dec.{lit≤}
-use lib.Pow.{pow-pos, high, low, split}
+use lib.Pow.{pow-pos, split}
 use Rattle.binary64.specs.declared.kinds.Kind.{Kind}
 use Rattle.binary64.specs.Kinds.{kindOfFields, kindOfBits}
 use Rattle.binary64.specs.Root.{inUnits, magnitude}

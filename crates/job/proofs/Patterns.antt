@@ -2,22 +2,13 @@
 use Prim.Native.Nat.{ℕ, _^_, _<_}
 use mathlib.Core.Path.{_≡_, refl, sym, _∙_, subst}
 use mathlib.Core.Bool.{Bool, not}
-use mathlib.Core.List.{[], _∷_}
 use lib.Dec.{T}
 use lib.Ieee.{Float, nan, binary64, div, nanBits, fits, ofBits, toBits}
 use lib.Ieee.Bits.{nanBits-is, ofBits-fits}
-use types.Run.{OneOf, miss}
-use denote.Enum.Declared.{tagOf}
-use Rattle.binary64.specs.declared.kinds.Kind.{Kind}
 use Rattle.binary64.specs.declared.kinds.Kind.the-variants.{NaN}
 use Rattle.binary64.specs.Kinds.{kindOfBits, kind}
-use Rattle.binary64.proofs.kinds.Kind.{the-type}
 use Rattle.binary64.proofs.KindLaws.{kind-of-pattern}
 use Rattle.binary64.proofs.Values.{nan-of-kind, number-of-kind}
-
--- the kinds of a match's other arm
-pub not-nan : (κ : Kind) → OneOf (0 ∷ 1 ∷ 2 ∷ 3 ∷ []) (tagOf the-type κ) → ¬ (κ ≡ NaN)
-not-nan κ h e = miss (0 ∷ 1 ∷ 2 ∷ 3 ∷ []) 4 tt (subst (λ k. OneOf (0 ∷ 1 ∷ 2 ∷ 3 ∷ []) (tagOf the-type k)) e h)
 
 quotient-nan : div binary64 (ofBits binary64 0) (ofBits binary64 0) ≡ nan
 unfolding div ofBits

@@ -8,13 +8,14 @@ use native.Mathlib.Nat.{lt-of-lt-of-le, mod-eq-of-lt}
 use native.Mathlib.Omega.{arith}
 use lib.Dec.{lit≤}
 use lib.Count.{leadingZeros}
-use types.Run.{OneOf, miss}
+use types.Run.{OneOf}
 use denote.Enum.Declared.{tagOf}
 use borrow.Author.Needs.{needs}
 use Rattle.binary64.specs.declared.kinds.Kind.the-variants.{Subnormal, Normal}
 use Rattle.binary64.specs.Kinds.{kindOfBits}
 use Rattle.binary64.specs.RootSteps.{PositiveFinite, Normalised}
 use Rattle.binary64.proofs.kinds.Kind.{the-type}
+use Rattle.binary64.proofs.KindLaws.{other-arm}
 use Rattle.binary64.proofs.Normalising.{shift, zeros-range, subnormal-range, normal-range, normalised-normal, normalised-subnormal}
 use Rattle.binary64.proofs.root.normalise.Statement.{statement}
 use Rattle.binary64.proofs.root.normalise.Tie as tie
@@ -42,7 +43,7 @@ module _ (p : ℕ) (pre : PositiveFinite p) where
   not-subnormal h = go (pre .subnormalOrNormal)
     where
       go : (kindOfBits p ≡ Subnormal) ⊎ (kindOfBits p ≡ Normal) → kindOfBits p ≡ Normal
-      go (inl e) = absurd (miss (0 ∷ 2 ∷ 3 ∷ 4 ∷ []) 1 tt (subst (λ κ. OneOf (0 ∷ 2 ∷ 3 ∷ 4 ∷ []) (tagOf the-type κ)) e h))
+      go (inl e) = absurd (other-arm (0 ∷ 2 ∷ 3 ∷ 4 ∷ []) (kindOfBits p) Subnormal tt h e)
       go (inr e) = e
 
   normal : OneOf (0 ∷ 2 ∷ 3 ∷ 4 ∷ []) (tagOf the-type (kindOfBits p)) → Normalised p (p % 2 ^ 52 + 2 ^ 52) (p / 2 ^ 52 + 1075)

@@ -1,9 +1,12 @@
 -- `job::floats::bits_of` meets its contract, by the kind of the value. Assumes nothing.
 use mathlib.Core.Path.{sym, _∙_, subst}
+use mathlib.Core.List.{[], _∷_}
 use lib.Dec.{T}
 use borrow.Author.Needs.{needs}
+use Rattle.binary64.specs.declared.kinds.Kind.the-variants.{NaN}
+use Rattle.binary64.proofs.KindLaws.{other-arm}
 use Rattle.binary64.proofs.Values.{number-of-kind}
-use Rattle.job.proofs.Patterns.{not-nan, nan-bits}
+use Rattle.job.proofs.Patterns.{nan-bits}
 use Rattle.job.proofs.floats.bits_of.Statement.{statement}
 use Rattle.job.proofs.floats.bits_of.Tie as tie
 
@@ -15,7 +18,7 @@ enum-told c = search needs
 
 float-to-bits-result : tie.Need-float-to-bits-result
 float-to-bits-result c =
-    number-of-kind (c .before .before .args .v) (λ e. not-nan (c .before .kind-of .result) (c .match .keys2) (c .before .kind-of .ensures ∙ e))
+    number-of-kind (c .before .before .args .v) (λ e. other-arm (0 ∷ 1 ∷ 2 ∷ 3 ∷ []) (c .before .kind-of .result) NaN tt (c .match .keys2) (c .before .kind-of .ensures ∙ e))
 
 returns : tie.Need-returns
 returns c =

@@ -1,8 +1,11 @@
 -- `job::floats::float_of` meets its contract, by the kind of the pattern. Assumes nothing.
 use mathlib.Core.Path.{sym, _∙_}
+use mathlib.Core.List.{[], _∷_}
 use native.Mathlib.Omega.{arith}
 use borrow.Author.Needs.{needs}
-use Rattle.job.proofs.Patterns.{not-nan, pattern-nan, pattern-number}
+use Rattle.binary64.specs.declared.kinds.Kind.the-variants.{NaN}
+use Rattle.binary64.proofs.KindLaws.{other-arm}
+use Rattle.job.proofs.Patterns.{pattern-nan, pattern-number}
 use Rattle.job.proofs.floats.float_of.Statement.{statement}
 use Rattle.job.proofs.floats.float_of.Tie as tie
 
@@ -15,7 +18,7 @@ enum-told c = search needs
 float-from-bits-result : tie.Need-float-from-bits-result
 float-from-bits-result c =
     let start = c .before .before in
-    pattern-number (start .args .bits) (omega arith) (λ e. not-nan (c .before .kind-of-bits .result) (c .match .keys2) (c .before .kind-of-bits .ensures ∙ e))
+    pattern-number (start .args .bits) (omega arith) (λ e. other-arm (0 ∷ 1 ∷ 2 ∷ 3 ∷ []) (c .before .kind-of-bits .result) NaN tt (c .match .keys2) (c .before .kind-of-bits .ensures ∙ e))
 
 returns : tie.Need-returns
 returns c =
