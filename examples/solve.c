@@ -14,8 +14,8 @@ enum { N = 3, TRIANGLE = N * (N + 1) / 2 };
 static const double system_matrix[TRIANGLE] = {4, 2, -2, 10, 5, 6}; /* the lower triangle, column by column */
 static const double right_side[N] = {4, 17, 9};
 
-static void check(const char *call, metsovary_result r) {
-    if (r.code == 0) return;
+static metsovary_result check(const char *call, metsovary_result r) {
+    if (r.code == 0) return r;
     fprintf(stderr, "%s: code %" PRIu64 ", place %" PRIu64 ", value %g\n", call, r.code, r.place, r.value);
     exit(1);
 }
@@ -33,16 +33,18 @@ int main(void) {
 
     memcpy(a, system_matrix, sizeof a);
     memcpy(x, right_side, sizeof x);
-    check("factor", metsovary_factor_plain(shape, a, TRIANGLE, work, N));
+    metsovary_result plain = check("factor", metsovary_factor_plain(shape, a, TRIANGLE, work, N));
     check("solve", metsovary_solve_plain(shape, 1, a, TRIANGLE, x, N, work, N));
     print("plain factor", a, TRIANGLE);
+    printf("every root exact: %s\n", plain.exact ? "yes" : "no");
     print("solution", x, N);
 
     memcpy(a, system_matrix, sizeof a);
     memcpy(x, right_side, sizeof x);
     check("packed to blocked", metsovary_packed_to_blocked(shape, a, TRIANGLE, work, N * 2));
-    check("factor", metsovary_factor_blocked(shape, a, TRIANGLE, work, N * 2));
+    metsovary_result blocked = check("factor", metsovary_factor_blocked(shape, a, TRIANGLE, work, N * 2));
     print("blocked factor", a, TRIANGLE);
+    printf("every root exact: %s\n", blocked.exact ? "yes" : "no");
     check("solve", metsovary_solve_blocked(shape, 1, a, TRIANGLE, x, N, work, N * 2));
     check("blocked to packed", metsovary_blocked_to_packed(shape, a, TRIANGLE, work, N * 2));
     print("the same, packed", a, TRIANGLE);

@@ -26,20 +26,24 @@
  *   12  a solver: a y or an x, of the forward or backward substitution,       the lowest such right-hand side
  *       is not finite
  *
- * The value is +0 except under 10, where it may be minus infinity. After 1 to 9 all memory is as it was. On success and after 10 to 12 the needed length of
- * work memory is +0 and the rest as it was. */
+ * The value is +0 except under 10, where it may be minus infinity. exact: a factor succeeds, and the square of each of its roots is the pivot exactly; so it
+ * is true of an accepted order 0. It is false after every refusal, and from rearrangers and solvers, which take no root. After 1 to 9 all memory is as it was.
+ * On success and after 10 to 12 the needed length of work memory is +0 and the rest as it was. */
 #ifndef METSOVARY_H
 #define METSOVARY_H
 
 #include <stddef.h>
 #include <stdint.h>
+#ifndef __cplusplus
+#include <stdbool.h>
+#endif
 
 #ifdef __cplusplus
 extern "C" {
 #endif
 
 typedef struct { uint64_t order, block; } metsovary_shape;
-typedef struct { uint64_t code, place; double value; } metsovary_result;
+typedef struct { uint64_t code, place; double value; bool exact; } metsovary_result;
 
 /* Rearrange a matrix or a factor in its own memory: packed to blocked, and back. Values of every kind move with their bits kept. Work: n min(n, b) values. */
 metsovary_result metsovary_packed_to_blocked(metsovary_shape, double *matrix, size_t, double *work, size_t);

@@ -1,4 +1,5 @@
 #include "reference.h"
+#include "squares.h"
 
 #include <math.h>
 #include <stdarg.h>
@@ -15,7 +16,7 @@ size_t place(enum layout layout, metsovary_shape shape, size_t i, size_t j) {
 /* ---- rules ---- */
 
 static metsovary_result answer(uint64_t code, uint64_t where, double value) {
-    metsovary_result r = {code, where, value};
+    metsovary_result r = {code, where, value, false};
     return r;
 }
 
@@ -79,6 +80,7 @@ metsovary_result reference_factor(enum layout layout, metsovary_shape shape, dou
     if (bad < length) return answer(7, bad, 0.0);
     double *a = load(layout, shape, matrix);
     metsovary_result r = answer(0, 0, 0.0);
+    bool exact = true;
     size_t j;
     for (j = 0; j < n && r.code == 0; j++) {
         double *column = a + j * n;
@@ -95,6 +97,7 @@ metsovary_result reference_factor(enum layout layout, metsovary_shape shape, dou
             break;
         }
         column[j] = sqrt(pivot);
+        exact = exact && square_is(to_bits(column[j]), to_bits(pivot));
         for (size_t i = j + 1; i < n; i++) {
             column[i] = column[i] / column[j];
             if (!isfinite(column[i])) r = answer(11, j, 0.0);
@@ -106,6 +109,7 @@ metsovary_result reference_factor(enum layout layout, metsovary_shape shape, dou
         for (size_t i = c; i < n; i++) matrix[place(layout, shape, i, c)] = a[i + c * n];
     free(a);
     clear(work, layout == PACKED ? n : block_work(shape));
+    r.exact = r.code == 0 && exact;
     return r;
 }
 
@@ -261,11 +265,14 @@ int finish(void) {
 
 /* ---- comparing a call of the engine with the reference ---- */
 
+bool same_result(metsovary_result a, metsovary_result b) {
+    return a.code == b.code && a.place == b.place && to_bits(a.value) == to_bits(b.value) && a.exact == b.exact;
+}
+
 static metsovary_result compared(const char *what, metsovary_shape shape, metsovary_result got, metsovary_result wanted, bool memories) {
-    expect(got.code == wanted.code && got.place == wanted.place && to_bits(got.value) == to_bits(wanted.value),
-        "%s n %llu b %llu: %llu %llu %016llx, wanted %llu %llu %016llx", what, (unsigned long long)shape.order, (unsigned long long)shape.block,
-        (unsigned long long)got.code, (unsigned long long)got.place, (unsigned long long)to_bits(got.value), (unsigned long long)wanted.code,
-        (unsigned long long)wanted.place, (unsigned long long)to_bits(wanted.value));
+    expect(same_result(got, wanted), "%s n %llu b %llu: %llu %llu %016llx exact %d, wanted %llu %llu %016llx exact %d", what, (unsigned long long)shape.order,
+        (unsigned long long)shape.block, (unsigned long long)got.code, (unsigned long long)got.place, (unsigned long long)to_bits(got.value), got.exact,
+        (unsigned long long)wanted.code, (unsigned long long)wanted.place, (unsigned long long)to_bits(wanted.value), wanted.exact);
     expect(memories, "%s n %llu b %llu: memory differs (code %llu)", what, (unsigned long long)shape.order, (unsigned long long)shape.block, (unsigned long long)wanted.code);
     return wanted;
 }

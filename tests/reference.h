@@ -42,6 +42,8 @@ void group(const char *name);       /* ends the group before it: a group with no
 bool expect(bool ok, const char *format, ...);
 int finish(void);                   /* prints 'N passed, M failed'; the exit status */
 
+bool same_result(metsovary_result, metsovary_result);
+
 /* Runs a call of the engine and of the reference on copies of the same memory and compares results and all memory. */
 typedef metsovary_result (*matrix_call)(metsovary_shape, double *, size_t, double *, size_t);
 metsovary_result compare_rearrange(enum layout from, enum layout to, metsovary_shape, memory matrix, memory work);

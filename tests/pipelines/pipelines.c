@@ -7,8 +7,6 @@ static size_t triangle(size_t n) { return n * (n + 1) / 2; }
 
 static size_t needed(size_t n, size_t b) { return n * (n < b ? n : b); }
 
-static bool same_result(metsovary_result a, metsovary_result b) { return a.code == b.code && a.place == b.place && to_bits(a.value) == to_bits(b.value); }
-
 enum { KINDS = 6 };
 
 /* a packed matrix: definite (kind 0), or with a weak, a negative or an overflowing part somewhere */
@@ -41,7 +39,7 @@ static metsovary_result both(metsovary_shape shape, size_t m, memory a, memory x
     fill_any(w);
     fill_any(v);
     memory c = memory_copy(a), z = memory_copy(x);
-    metsovary_result f, s = {0, 0, 0.0}, g, t = {0, 0, 0.0};
+    metsovary_result f, s = {0}, g, t = {0};
     if (with_reference) {
         f = compare_factor(PACKED, shape, a, w);
         if (f.code == 0) s = compare_solve(PACKED, shape, m, a, x, w);
@@ -89,6 +87,24 @@ static void both_of_kind(size_t n, size_t b, size_t m, unsigned kind, bool with_
 static void two_of(size_t n, size_t b) {
     both_of_kind(n, b, 2, 0, true);
     both_of_kind(n, b, 2, 1 + random_bits() % (KINDS - 1), true);
+}
+
+/* A = L·Lᵀ of whole numbers, so that every root is exact. A column with zeros below its diagonal may have one more than a square there: then its root alone is not,
+ * and so the factor is not. */
+static void whole_numbers(size_t n, size_t b, size_t odd_one, bool with_reference) {
+    metsovary_shape shape = {n, b};
+    memory l = memory_new(triangle(n)), a = memory_new(triangle(n));
+    for (size_t j = 0; j < n; j++)
+        for (size_t i = j; i < n; i++) l.values[place(PACKED, shape, i, j)] = i == j ? 1.0 + (double)(random_bits() % 9) : j == odd_one ? 0.0 : (double)(random_bits() % 17) - 8;
+    for (size_t j = 0; j < n; j++)
+        for (size_t i = j; i < n; i++) {
+            double sum = i == j && j == odd_one ? 1.0 : 0.0; /* whole numbers below 2^53 throughout */
+            for (size_t k = 0; k <= j; k++) sum += l.values[place(PACKED, shape, i, k)] * l.values[place(PACKED, shape, j, k)];
+            a.values[place(PACKED, shape, i, j)] = sum;
+        }
+    metsovary_result r = both(shape, 0, a, memory_new(0), with_reference);
+    expect(r.code == 0 && r.exact == (odd_one >= n), "n %zu b %zu, no square in column %zu: code %llu, exact %d", n, b, odd_one, (unsigned long long)r.code, r.exact);
+    memory_free(l);
 }
 
 /* ---- every block length to 40, and those beside the multiples of 16 and at the bounds ---- */
@@ -221,6 +237,15 @@ int main(void) {
         for (size_t b = 1; b <= 200; b += 1 + random_bits() % 60) both_of_kind(n, b, 2, random_bits() % KINDS, n < 300);
     group("10, 11 and 12 in columns from the first to the last, every b to 40 and some to 200");
     for (size_t k = 0; k < BLOCKS; k++) refused_columns(block_length(k));
+    group("whole numbers: every root exact, and one that is not in each column");
+    for (size_t n = 0; n <= 40; n++)
+        for (size_t k = 0; k < BLOCKS; k += n < 12 ? 1 : 7)
+            for (size_t odd_one = 0; odd_one <= n; odd_one++) whole_numbers(n, block_length(k), odd_one, true);
+    for (size_t k = 0; k < BLOCKS; k += 5) {
+        whole_numbers(263, block_length(k), 263, true);
+        whole_numbers(263, block_length(k), random_bits() % 263, true);
+    }
+    whole_numbers(1000, 64, 1000, false);
     group("10 and 11 in every pair of columns");
     for (size_t n = 1; n <= 9; n++)
         for (size_t b = 1; b <= 10; b++)
@@ -244,12 +269,13 @@ int main(void) {
     memory_free(none);
     group("order 0 with null pointers");
     metsovary_shape empty = {0, 64};
-    expect(metsovary_packed_to_blocked(empty, NULL, 0, NULL, 0).code == 0, "packed to blocked");
-    expect(metsovary_blocked_to_packed(empty, NULL, 0, NULL, 0).code == 0, "blocked to packed");
-    expect(metsovary_factor_plain(empty, NULL, 0, NULL, 0).code == 0, "plain factor");
-    expect(metsovary_factor_blocked(empty, NULL, 0, NULL, 0).code == 0, "blocked factor");
-    expect(metsovary_solve_plain(empty, 3, NULL, 0, NULL, 0, NULL, 0).code == 0, "plain solver");
-    expect(metsovary_solve_blocked(empty, 3, NULL, 0, NULL, 0, NULL, 0).code == 0, "blocked solver");
+    metsovary_result success = {0}, all_exact = {0, 0, 0.0, true};
+    expect(same_result(metsovary_packed_to_blocked(empty, NULL, 0, NULL, 0), success), "packed to blocked");
+    expect(same_result(metsovary_blocked_to_packed(empty, NULL, 0, NULL, 0), success), "blocked to packed");
+    expect(same_result(metsovary_factor_plain(empty, NULL, 0, NULL, 0), all_exact), "plain factor");
+    expect(same_result(metsovary_factor_blocked(empty, NULL, 0, NULL, 0), all_exact), "blocked factor");
+    expect(same_result(metsovary_solve_plain(empty, 3, NULL, 0, NULL, 0, NULL, 0), success), "plain solver");
+    expect(same_result(metsovary_solve_blocked(empty, 3, NULL, 0, NULL, 0, NULL, 0), success), "blocked solver");
     group("both pipelines, n 4000, b 3, 64 and 200");
     both_of_kind(4000, 3, 1, 0, false);
     both_of_kind(4000, 64, 2, 0, false);

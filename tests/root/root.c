@@ -1,10 +1,12 @@
-// The square root of crate binary64 against the processor's, bit for bit, on fixed patterns. Each group of patterns is one test.
-// Where a root is a NaN the other must be a NaN too; the logic's floats have one NaN, so their bits are not compared.
+// The square root of crate binary64 against the processor's, bit for bit, on fixed patterns, and whether it is exact against whole numbers of 128 bits. Each
+// group of patterns is one test. Where a root is a NaN the other must be a NaN too; the logic's floats have one NaN, so their bits are not compared.
 #include <emmintrin.h>
 
 #include "../patterns.h"
+#include "../squares.h"
 
 double metsovary_square_root(double x);
+bool metsovary_root_is_exact(double x);
 
 enum {
     SAMPLES = 4096, // random fractions for each exponent
@@ -26,11 +28,15 @@ static uint64_t processor_root(uint64_t x) {
 
 static uint64_t library_root(uint64_t x) { return bits_of(metsovary_square_root(value_of(x))); }
 
-static void expect(uint64_t x, uint64_t root) {
+static void expect_exact(uint64_t x, uint64_t root, bool exact) {
     uint64_t library = library_root(x), processor = processor_root(x);
-    if (count(same(library, root) && same(processor, root)))
-        printf("root: %016" PRIX64 " gives %016" PRIX64 ", the processor's root is %016" PRIX64 ", expected %016" PRIX64 "\n", x, library, processor, root);
+    bool library_exact = metsovary_root_is_exact(value_of(x));
+    if (count(same(library, root) && same(processor, root) && library_exact == exact && square_is(root, x) == exact))
+        printf("root: %016" PRIX64 " gives %016" PRIX64 ", exact %d; the processor's root is %016" PRIX64 ", expected %016" PRIX64 ", exact %d\n", x, library,
+               library_exact, processor, root, exact);
 }
+
+static void expect(uint64_t x, uint64_t root) { expect_exact(x, root, square_is(root, x)); }
 
 static void compare(uint64_t x) { expect(x, processor_root(x)); }
 
@@ -94,28 +100,50 @@ static void near_normal_powers_of_two(void) {
     compare_range(INFINITE - NEAR, INFINITE - 1);
 }
 
-// Squares that need no rounding, with their roots: of the whole numbers below 2^20, and r · 2^e of random r below 2^26 for each e
-// whose square is in range. A square of 52 digits times 4^e is exact for e from -537, where its last digit is the smallest unit.
+// Squares that need no rounding, with their roots: of the whole numbers below 2^20, and r · 2^e of random r of 27 digits, up to 94,906,265, whose square is the
+// last of 53 digits, for each e whose square is in range. A square times 4^e is exact for e from -537, where its last digit is the smallest unit.
 static void for_each_square(void (*visit)(uint64_t square, uint64_t root)) {
     for (uint64_t r = 1; r < UINT64_C(1) << 20; r++) visit(bits_of((double)(r * r)), bits_of((double)r));
-    for (int e = -537; e <= 486; e++) {
+    for (int e = -537; e <= 485; e++) {
         double scale = value_of(pattern((uint64_t)(e + 1023), 0));
         for (unsigned k = 0; k < SAMPLES / 8; k++) {
-            uint64_t r = random_bits(26) | 1;
+            uint64_t r = 1 + random_bits(32) % 94906265;
             visit(bits_of((double)(r * r) * scale * scale), bits_of((double)r * scale));
         }
     }
 }
 
-static void exact_squares(void) { for_each_square(expect); }
+static void expect_square(uint64_t square, uint64_t root) { expect_exact(square, root, true); }
 
-static void compare_neighbours(uint64_t square, uint64_t root) {
+static void exact_squares(void) { for_each_square(expect_square); }
+
+// The values beside a square are none.
+static void expect_neighbours(uint64_t square, uint64_t root) {
     (void)root;
-    compare(square - 1);
-    compare(square + 1);
+    expect_exact(square - 1, processor_root(square - 1), false);
+    expect_exact(square + 1, processor_root(square + 1), false);
 }
 
-static void near_exact_squares(void) { for_each_square(compare_neighbours); }
+static void near_exact_squares(void) { for_each_square(expect_neighbours); }
+
+// Whole numbers of 27 digits whose square has 54. An even one's square is a value; an odd one's is not, and the value below that has the same root.
+static void squares_of_54_digits(void) {
+    for (uint64_t r = UINT64_C(94906266); r < UINT64_C(1) << 27; r += 1 + random_bits(9)) {
+        uint64_t even = bits_of((double)(r * r / 2 * 2));
+        expect_exact(even, bits_of((double)r), r % 2 == 0);
+        expect_exact(even + 1, processor_root(even + 1), false);
+    }
+}
+
+// Values whose root's square, rounded, is the value: whole numbers that are no squares.
+static void rounded_squares(void) {
+    for (uint64_t v = 2; v < UINT64_C(1) << 20; v++) {
+        volatile double root = value_of(processor_root(bits_of((double)v)));
+        if (root * root != (double)v) continue;
+        uint64_t whole = (uint64_t)root;
+        expect_exact(bits_of((double)v), bits_of(root), whole * whole == v);
+    }
+}
 
 // The odd m below 2^54 with m² ≡ rest modulo 2^55, for rest ≡ 1 modulo 8, digit by digit.
 static uint64_t root_modulo(uint64_t rest) {
@@ -161,6 +189,8 @@ static const group groups[] = {
     {"normal powers of two and their neighbours", near_normal_powers_of_two},
     {"exact squares", exact_squares},
     {"neighbours of exact squares", near_exact_squares},
+    {"squares of 54 digits, and what is beside them", squares_of_54_digits},
+    {"whole numbers that are the rounded square of their root", rounded_squares},
     {"neighbours of squares of midpoints", near_squares_of_midpoints},
 };
 

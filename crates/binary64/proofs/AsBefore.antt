@@ -1,5 +1,5 @@
--- What `finite`, `positive`, `root` and `judged` give on every value is what they gave before kinds were told by a table: the former definitions stand on
--- the other side of each equation. Assumes nothing.
+-- What `finite`, `positive`, `root` and, its exactness aside, `judged` give on every value is what they gave before kinds were told by a table: the former
+-- definitions stand on the other side of each equation. Assumes nothing.
 use Prim.Native.Nat.{ℕ, zero, suc, _+_, _-_, _*_, _/_, _%_, _^_, _≤_, _<_}
 use native.Mathlib.Nat.{mul-pos, zero-lt-suc, mod-lt, two-pow-succ}
 use native.Mathlib.Omega.{arith}
@@ -15,7 +15,7 @@ use borrow.Author.Tests.{lt-ltb, ne-eqb}
 use Rattle.binary64.specs.declared.Pivot.the-variants.{Root, Refused}
 use Rattle.binary64.specs.declared.kinds.Kind.{Kind}
 use Rattle.binary64.specs.Kinds.{kind, finite, positive, zero64}
-use Rattle.binary64.specs.Root.{magnitude, lowerMidpoint, scaled, bisect, rootBits, rootBy, root}
+use Rattle.binary64.specs.Root.{magnitude, lowerMidpoint, scaled, bisect, rootBits, rootBy, root, exact}
 use Rattle.binary64.specs.Judged.{judged}
 use Rattle.binary64.proofs.Magnitudes.{magnitude-subnormal, magnitude-normal}
 use Rattle.binary64.proofs.Values.{Value, zero-value, subnormal-value, normal-value, infinite-value, nan-value, value-case, finite-as, bits-range}
@@ -40,7 +40,7 @@ pub record AsBefore (x : Float) : Type 0 where
   pub finiteAs : finite x ≡ libraryFinite x
   pub positiveAs : positive x ≡ lt zero64 x
   pub rootAs : root x ≡ formerRoot x
-  pub judgedAs : judged x ≡ cond (lt zero64 x) (Root (formerRoot x)) (Refused x)
+  pub judgedAs : judged x ≡ cond (lt zero64 x) (Root (formerRoot x) (exact x)) (Refused x)
 
 -- ---- patterns without a sign's digit
 
@@ -108,5 +108,5 @@ as-before x f =
       finiteAs = finite-as x f;
       positiveAs = refl;
       rootAs = root-as x f;
-      judgedAs = ap (λ (r : Float). cond (lt zero64 x) (Root r) (Refused x)) (root-as x f);
+      judgedAs = ap (λ (r : Float). cond (lt zero64 x) (Root r (exact x)) (Refused x)) (root-as x f);
     }

@@ -1,7 +1,7 @@
 -- Laws of `root` on floats: where it is positive, finite, and a value of the format. Assumes nothing.
 use mathlib.Core.Logic.{_⊎_, inl, inr}
 use mathlib.Core.Path.{_≡_, refl, sym, ap, _∙_, subst}
-use mathlib.Core.Bool.{Bool, true, false, not}
+use mathlib.Core.Bool.{Bool, true, false, not, _&&_}
 use Prim.Native.Nat.{ℕ, _*_, _^_, _<_, zero-le}
 use native.Mathlib.Nat.{lt-of-le-of-lt}
 use native.Mathlib.Omega.{arith}
@@ -13,9 +13,9 @@ use lib.Ieee.Positive as ieee
 use lib.Ieee.Scale.{finite as libraryFinite}
 use lib.Ieee.Positive.{first-pos}
 use Rattle.binary64.specs.declared.kinds.Kind.{Kind}
-use Rattle.binary64.specs.declared.kinds.Kind.the-variants.{Subnormal, Normal}
-use Rattle.binary64.specs.Kinds.{kind, finite, positive}
-use Rattle.binary64.specs.Root.{magnitude, MidpointRule, rootBits, rootBy, root}
+use Rattle.binary64.specs.declared.kinds.Kind.the-variants.{Zero, Subnormal, Normal}
+use Rattle.binary64.specs.Kinds.{kind, finiteKind, finite, positive}
+use Rattle.binary64.specs.Root.{magnitude, MidpointRule, rootBits, rootBy, root, squares, exact}
 use Rattle.binary64.specs.RootSteps.{PositiveFinite}
 use Rattle.binary64.proofs.Midpoints.{root-range, root-rule}
 use Rattle.binary64.proofs.Values.{Value, zero-value, subnormal-value, normal-value, value-case, finite-library, library-finite, library-of-value, pattern-value, pattern-number, bits-range}
@@ -50,6 +50,10 @@ pub root-is : (x : Float) → T (fits binary64 x) → T (finite x) → T (positi
 unfolding root
 root-is x f g h = rooted (kind x) (positive x) x (positive-kind x (kind x) (value-case x f) (positive-finite x g h)) (is-true (positive x) h)
 
+pub exact-is : (x : Float) → T (finite x) → T (positive x) → exact x ≡ squares (toBits binary64 (root x)) (toBits binary64 x)
+unfolding exact
+exact-is x g h = rw (is-true (positive x) h, is-true (finite x) g) refl
+
 module _ (x : Float) (f : T (fits binary64 x)) (g : T (finite x)) (h : T (positive x)) where
   pub positive-pattern : PositiveFinite (toBits binary64 x)
   unfolding kind
@@ -80,5 +84,36 @@ module _ (x : Float) (f : T (fits binary64 x)) (g : T (finite x)) (h : T (positi
       ∙ toBits-ofBits binary64 (rootBits (toBits binary64 x)) (omega arith)
       (subst (λ (b : Bool). T (not b)) (nanBits-is binary64 (rootBits (toBits binary64 x))) (pattern-number (rootBits (toBits binary64 x)) below))
 
+  pub exact-bits : exact x ≡ squares (rootBits (toBits binary64 x)) (toBits binary64 x)
+  exact-bits = exact-is x g h ∙ ap (λ (r : ℕ). squares r (toBits binary64 x)) root-bits
+
   pub root-midpoints : MidpointRule (toBits binary64 x) (toBits binary64 (root x))
   root-midpoints = subst (λ (y : ℕ). MidpointRule (toBits binary64 x) y) (sym root-bits) (root-rule (toBits binary64 x) positive-pattern)
+
+-- ---- the values without a root of document 01
+
+module _ (x : Float) where
+  pub inexact-below : positive x ≡ false → exact x ≡ false
+  unfolding exact
+  inexact-below e = rw e refl
+
+  pub inexact-infinite : finite x ≡ false → exact x ≡ false
+  unfolding exact
+  inexact-infinite e = go (positive x)
+    where
+      go : (b : Bool) → b && (finite x && squares (toBits binary64 (root x)) (toBits binary64 x)) ≡ false
+      go true = rw e refl
+      go false = refl
+
+  pub inexact-zero : T (fits binary64 x) → kind x ≡ Zero → exact x ≡ false
+  unfolding finite
+  inexact-zero f e = go (positive x) refl
+    where
+      never : (κ : Kind) → κ ≡ Zero → (κ ≡ Subnormal) ⊎ (κ ≡ Normal) → ⊥
+      never κ z (inl s) = let w : _≡_ {A = ℕ} 0 1 = cc in omega arith
+      never κ z (inr n) = let w : _≡_ {A = ℕ} 0 1 = cc in omega arith
+
+      go : (b : Bool) → positive x ≡ b → exact x ≡ false
+      go false h = inexact-below h
+      go true h =
+          absurd (never (kind x) e (positive-kind x (kind x) (value-case x f) (positive-finite x (subst (λ κ. T (finiteKind κ)) (sym e) tt) (subst T (sym h) tt))))

@@ -1,11 +1,11 @@
 -- The square root of document 01, by bit patterns: the patterns from 0 on are the values from +0 up in rising order, so a neighbour is the next pattern.
 use Prim.Native.Nat.{ℕ, zero, suc, _+_, _-_, _*_, _^_, _<_}
-use mathlib.Core.Bool.{Bool, cond}
-use lib.Dec.{ltb}
+use mathlib.Core.Bool.{Bool, cond, _&&_}
+use lib.Dec.{ltb, eqb}
 use lib.Ieee.{Float, nan, binary64, toBits, ofBits}
 use Rattle.binary64.specs.declared.kinds.Kind.{Kind}
 use Rattle.binary64.specs.declared.kinds.Kind.the-variants.{Zero, Subnormal, Normal, Infinite, NaN}
-use Rattle.binary64.specs.Kinds.{exponentField, fraction, kindOfBits, kind, positive}
+use Rattle.binary64.specs.Kinds.{exponentField, fraction, kindOfBits, kind, finite, positive}
 
 -- The size of a value of exponent field x and fraction t, in units of 2^−1074, the smallest positive value: a subnormal has no leading digit and the
 -- exponent of field 1. Past the finite patterns it goes on by the same formula: the next after the greatest finite one stands for 2^1024.
@@ -63,3 +63,12 @@ rootBy NaN above x = nan
 unfoldable pub root : Float → Float
 unfolding rootBy positive
 root x = rootBy (kind x) (positive x) x
+
+-- the square of pattern r's value is pattern p's value, as whole numbers on the scale of `scaled`: nothing is rounded
+unfoldable pub squares : ℕ → ℕ → Bool
+unfolding magnitude scaled
+squares r p = eqb ((2 * magnitude r) ^ 2) (scaled p)
+
+-- Whether the root's square is the argument exactly. The values that document 01 gives no root, those not finite or not above zero, answer no.
+unfoldable pub exact : Float → Bool
+exact x = positive x && (finite x && squares (toBits binary64 (root x)) (toBits binary64 x))

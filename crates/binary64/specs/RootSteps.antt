@@ -3,10 +3,9 @@ use Prim.Native.Nat.{ℕ, _+_, _*_, _^_, _≤_, _<_}
 use mathlib.Core.Path.{_≡_}
 use mathlib.Core.Logic.{_⊎_}
 use mathlib.Core.Bool.{Bool}
-use lib.Dec.{eqb}
 use Rattle.binary64.specs.declared.kinds.Kind.the-variants.{Subnormal, Normal}
 use Rattle.binary64.specs.Kinds.{kindOfBits}
-use Rattle.binary64.specs.Root.{magnitude, scaled, rootBits}
+use Rattle.binary64.specs.Root.{scaled, squares, rootBits}
 
 -- the pattern of a value above zero that is finite
 pub record PositiveFinite (p : ℕ) : Type 0 where
@@ -26,7 +25,7 @@ pub record IntegerRoot (n root remainder : ℕ) : Type 0 where
   pub sum : root * root + remainder ≡ n
   pub least : remainder ≤ 2 * root
 
--- the root's pattern; it is exact where the square of its value is the argument, on the scale of the squares of half units
+-- the root's pattern, and whether its square is the argument exactly
 pub record RootFound (p root : ℕ) (exact : Bool) : Type 0 where
   pub bits : root ≡ rootBits p
-  pub exactly : exact ≡ eqb ((2 * magnitude (rootBits p)) ^ 2) (scaled p)
+  pub exactly : exact ≡ squares (rootBits p) p

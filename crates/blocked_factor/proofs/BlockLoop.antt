@@ -12,19 +12,20 @@ use Rattle.shape.specs.Places.{triangle, blockOf, width, blockedPlace}
 use Rattle.shape.specs.Layouts.{Entry, Bijection}
 use Rattle.shape.proofs.Bijections.{blocked-bijection}
 use Rattle.shape.proofs.Blocks.{block-of-le, block-of-inside, block-of-next, width-le-block, width-full, width-last}
-use Rattle.calls.specs.declared.Verdict.{Verdict}
+use Rattle.calls.specs.declared.Judgement.{Judgement}
 use Rattle.calls.specs.declared.Layout.the-variants.{Blocked}
+use Rattle.calls.specs.Sequences.{every}
 use Rattle.calls.specs.Triangles.{Triangle, height, load, store}
 use Rattle.calls.specs.Arithmetic.{cholesky}
 use Rattle.calls.specs.Refusals.{success, accepted, lowestRefusal}
-use Rattle.calls.specs.Calls.{finished, columnsVerdict}
+use Rattle.calls.specs.Calls.{finished, columnsVerdict, columnsExact, columnsJudged}
 use Rattle.calls.proofs.Triangles.{entry-load, memory-ext, length-store, store-same, store-other}
 use Rattle.calls.proofs.Columns.{columns, entry-kept, shaped-columns}
 use Rattle.calls.proofs.Refusals.{lowest-accepted}
-use Rattle.calls.proofs.Judging.{lowest-all}
-use Rattle.blocked_factor.specs.BlockStages.{judgeColumn}
+use Rattle.calls.proofs.Judging.{lowest-all, judged-stays}
+use Rattle.blocked_factor.specs.BlockStages.{judgeColumn, exactColumn, columnsTo}
 use Rattle.blocked_factor.specs.BlockSteps.{BlockAt, FactoredTo, BlockDone, Sized, BlocksDone}
-use Rattle.blocked_factor.proofs.BlockVerdicts.{lowest-stays, judge-success, lowest-place}
+use Rattle.blocked_factor.proofs.BlockVerdicts.{judge-success, lowest-place}
 use Rattle.blocked_factor.proofs.EarlierBlocks.{inside-le}
 
 pub block-at : {n b len workLength : ℕ} (c len′ : ℕ) → Sized n b len workLength → len′ ≡ len → c < n → blockOf b c ≡ c → BlockAt n b c len′
@@ -46,62 +47,56 @@ next-first {n} {b} {c} {len} here inside = go (decLt (n - c) b)
     go (yes last) = absurd (omega (arith, width-last n b c (omega arith)))
     go (no full) = rw (width-full n b c (omega arith)) (block-of-next b c (omega (arith, here .block)) (here .first))
 
--- the first c columns are finished and accepted
-pub record Reached (n b : ℕ) (m : List Float) (c : ℕ) (m′ : List Float) : Type 0 where
+-- the first c columns are finished and accepted, and judged
+pub record Reached (n b : ℕ) (m : List Float) (c : ℕ) (judged : Judgement) (m′ : List Float) : Type 0 where
   pub kept : length m′ ≡ length m
-  reached : (a : Triangle) → FactoredTo n b a 0 m → FactoredTo n b a c m′ × (lowestRefusal (judgeColumn n a) c ≡ success)
+  reached :
+      (a : Triangle) → FactoredTo n b a 0 m → FactoredTo n b a c m′ × (lowestRefusal (judgeColumn n a) c ≡ success) × (judged ≡ columnsTo n a c)
 
-pub reached-none : (n b : ℕ) (m : List Float) → Reached n b m 0 m
-unfolding lowestRefusal
-reached-none n b m = record { kept = refl; reached = λ a known. (known, refl) }
+pub reached-none : (n b : ℕ) (m : List Float) → Reached n b m 0 (record { verdict = success; exact = true }) m
+unfolding lowestRefusal every
+reached-none n b m = record { kept = refl; reached = λ a known. (known, refl, refl) }
 
 module _
-    {n b c : ℕ} {m m₁ m₂ : List Float} {answer : Verdict} (here : BlockAt n b c (length m₁)) (before : Reached n b m c m₁)
-    (done : BlockDone n b c m₁ answer m₂) where
-  pub reached-next : accepted answer ≡ true → Reached n b m (c + width n b c) m₂
+    {n b c : ℕ} {m m₁ m₂ : List Float} {judged answer : Judgement} (here : BlockAt n b c (length m₁)) (before : Reached n b m c judged m₁)
+    (done : BlockDone n b c judged m₁ answer m₂) where
+  found : (a : Triangle) → FactoredTo n b a 0 m → answer ≡ columnsTo n a (c + width n b c)
+  found a known = let now = before .reached a known in done .judged a (now .0) (now .1) (now .2)
+
+  pub reached-next : accepted (answer .verdict) ≡ true → Reached n b m (c + width n b c) answer m₂
   reached-next passed =
-      let passes : T (accepted answer) = rw passed tt in
       record {
         kept = done .kept ∙ before .kept;
-        reached = λ a known.
-            let now = before .reached a known in (
-              done .finished passed a (now .0),
+        reached = λ a known. (
+              done .finished passed a (before .reached a known .0),
               lowest-all (judgeColumn n a) (judge-success n a) (c + width n b c)
-                  (subst (λ r. T (accepted r)) (done .judged a (now .0) (now .1)) passes),
+                  (subst (λ (r : Judgement). T (accepted (r .verdict))) (found a known) (rw passed tt)),
+              found a known,
             );
       }
 
-  pub blocks-refused : accepted answer ≡ false → BlocksDone n b m answer m₂
+  pub blocks-refused : accepted (answer .verdict) ≡ false → BlocksDone n b m answer m₂
   blocks-refused refused =
       record {
         kept = done .kept ∙ before .kept;
-        verdict = verdict;
+        judgement = λ a known.
+            found a known
+            ∙ judged-stays (judgeColumn n a) (exactColumn n a) (c + width n b c) n (omega (arith, inside-le here))
+            (ap (λ (r : Judgement). accepted (r .verdict)) (sym (found a known)) ∙ refused);
         columns = λ a known.
             rw (refused, place a known) (subst (λ l. FactoredTo n b a c l) (sym (done .restored refused)) (before .reached a known .0));
       }
     where
-      found : (a : Triangle) → FactoredTo n b a 0 m → answer ≡ lowestRefusal (judgeColumn n a) (c + width n b c)
-      found a known = let now = before .reached a known in done .judged a (now .0) (now .1)
-
-      verdict : (a : Triangle) → FactoredTo n b a 0 m → answer ≡ lowestRefusal (judgeColumn n a) n
-      verdict a known =
-          let total : c + width n b c + (n - (c + width n b c)) ≡ n = omega (arith, inside-le here) in
-          let stays : lowestRefusal (judgeColumn n a) (c + width n b c + (n - (c + width n b c)))
-          ≡ lowestRefusal (judgeColumn n a) (c + width n b c) =
-          lowest-stays (judgeColumn n a) (c + width n b c) (n - (c + width n b c))
-          (ap (λ r. accepted r) (sym (found a known)) ∙ refused)
-          in
-          found a known ∙ sym (rw total at stays)
-
-      place : (a : Triangle) → FactoredTo n b a 0 m → blockOf b (answer .place) ≡ c
+      place : (a : Triangle) → FactoredTo n b a 0 m → blockOf b (answer .verdict .place) ≡ c
       place a known =
-          let lowest : (answer .place < c + width n b c) × (accepted (judgeColumn n a (answer .place)) ≡ false) =
-          lowest-place n a (c + width n b c) answer (found a known) refused
+          let at : ℕ = answer .verdict .place in
+          let lowest : (at < c + width n b c) × (accepted (judgeColumn n a at) ≡ false) =
+          lowest-place n a (c + width n b c) (answer .verdict) (ap (λ (r : Judgement). r .verdict) (found a known)) refused
           in
-          let low : c ≤ answer .place = at-least a known (answer .place) (lowest .1) (decLt (answer .place) c) in
-          let back : answer .place ≡ c + (answer .place - c) = omega arith in
+          let low : c ≤ at = at-least a known at (lowest .1) (decLt at c) in
+          let back : at ≡ c + (at - c) = omega arith in
           ap (blockOf b) back
-          ∙ block-of-inside b c (answer .place - c) (here .first) (omega (arith, lowest .0, width-le-block n b c))
+          ∙ block-of-inside b c (at - c) (here .first) (omega (arith, lowest .0, width-le-block n b c))
         where
           at-least : (a : Triangle) → FactoredTo n b a 0 m → (j : ℕ) → accepted (judgeColumn n a j) ≡ false → Dec (j < c) → c ≤ j
           at-least a known j fails (no p) = omega arith
@@ -110,23 +105,23 @@ module _
               (subst (λ x. T x) fails
               (lowest-accepted (judgeColumn n a) c (subst (λ r. T (accepted r)) (sym (before .reached a known .1)) tt) j p))
 
-pub blocks-all : {n b : ℕ} {m m₁ : List Float} → Reached n b m n m₁ → BlocksDone n b m success m₁
-blocks-all all =
+pub blocks-all : {n b : ℕ} {m m₁ : List Float} {judged : Judgement} → Reached n b m n judged m₁ → accepted (judged .verdict) ≡ true → BlocksDone n b m judged m₁
+blocks-all all passed =
     record {
       kept = all .kept;
-      verdict = λ a known. sym (all .reached a known .1);
-      columns = λ a known. all .reached a known .0;
+      judgement = λ a known. all .reached a known .2;
+      columns = λ a known. rw passed (all .reached a known .0);
     }
 
 -- ---- the whole call
 
 module _
-    (n b : ℕ) (m m′ : List Float) (answer : Verdict) (block : 0 < b) (size : length m ≡ triangle n) (done : BlocksDone n b m answer m′) where
+    (n b : ℕ) (m m′ : List Float) (answer : Judgement) (block : 0 < b) (size : length m ≡ triangle n) (done : BlocksDone n b m answer m′) where
   abbrev a : Triangle
   a = load (blockedPlace n b) (height n) n m
 
   abbrev k : ℕ
-  k = finished Blocked n b answer
+  k = finished Blocked n b (answer .verdict)
 
   start : FactoredTo n b a 0 m
   start =
@@ -140,11 +135,12 @@ module _
 
   -- no more columns are finished than there are
   finished-le : k ≤ n
-  finished-le = go (accepted answer) refl
+  finished-le = go (accepted (answer .verdict)) refl
     where
-      go : (t : Bool) → accepted answer ≡ t → cond t n (blockOf b (answer .place)) ≤ n
+      go : (t : Bool) → accepted (answer .verdict) ≡ t → cond t n (blockOf b (answer .verdict .place)) ≤ n
       go true e = omega arith
-      go false e = omega (arith, block-of-le b (answer .place), lowest-place n a n answer (done .verdict a start) e)
+      go false e =
+          omega (arith, block-of-le b (answer .verdict .place), lowest-place n a n (answer .verdict) (ap (λ (r : Judgement). r .verdict) (done .judgement a start)) e)
 
   entry-done :
       (i j : ℕ) → Entry n i j → Dec (j < k) →
@@ -158,10 +154,10 @@ module _
       ∙ sym (start .entries i j e (omega arith))
       ∙ sym (store-other (blockedPlace n b) n bij (columns n a k) k (shaped-columns n a k finished-le) m (omega arith) i j nan e (omega arith))
 
-  pub factored-matrix : (answer ≡ columnsVerdict n a) × (m′ ≡ store (blockedPlace n b) (cholesky (height n) a k) m)
-  unfolding columnsVerdict
+  pub factored-matrix : (answer ≡ columnsJudged n a) × (m′ ≡ store (blockedPlace n b) (cholesky (height n) a k) m)
+  unfolding columnsVerdict columnsExact
   factored-matrix = (
-    done .verdict a start,
+    done .judgement a start,
     memory-ext (blockedPlace n b) n bij m′ (store (blockedPlace n b) (columns n a k) m) (done .kept ∙ size)
         (length-store (blockedPlace n b) n bij (columns n a k) m ∙ size) (λ i j e. entry-done i j e (decLt j k)),
   )

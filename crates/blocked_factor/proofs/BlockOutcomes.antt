@@ -11,11 +11,12 @@ use lib.Ieee.{Float}
 use Rattle.binary64.specs.Kinds.{zero64}
 use Rattle.shape.specs.Places.{blockWork, blockedPlace}
 use Rattle.calls.specs.declared.Verdict.{Verdict}
+use Rattle.calls.specs.declared.Judgement.{Judgement}
 use Rattle.calls.specs.declared.Layout.the-variants.{Blocked}
 use Rattle.calls.specs.Triangles.{Triangle, height, placeOf, load, store}
 use Rattle.calls.specs.Arithmetic.{cholesky}
 use Rattle.calls.specs.Refusals.{accepted}
-use Rattle.calls.specs.Calls.{DoneAs, resultOf, clear, factorChecks, factored, factorize, finished}
+use Rattle.calls.specs.Calls.{DoneAs, judgedResult, clear, factorChecks, factored, factorize, finished}
 use Rattle.calls.proofs.CheckLaws.{FactorAccepted, factor-passed}
 use Rattle.blocked_factor.specs.BlockSteps.{Sized, BlocksDone}
 use Rattle.blocked_factor.proofs.BlockLoop.{factored-matrix}
@@ -41,15 +42,15 @@ module _ (n b : ℕ) (m w : List Float) (checks : Verdict) (e : checks ≡ facto
           }
 
       pub blocks-done :
-          (answer : Verdict) (m′ : List Float) → BlocksDone n b m answer m′ →
-          DoneAs (factorize Blocked n b m w) (resultOf answer) m′ (replicate (blockWork n b) zero64 ++ drop needed w)
+          (answer : Judgement) (m′ : List Float) → BlocksDone n b m answer m′ →
+          DoneAs (factorize Blocked n b m w) (judgedResult answer) m′ (replicate (blockWork n b) zero64 ++ drop needed w)
       unfolding factorize factored placeOf clear
       blocks-done answer m′ done =
           let a : Triangle = load (blockedPlace n b) (height n) n m in
           let both = factored-matrix n b m m′ answer (checks-accepted .sizes .blockLow tt) (checks-accepted .sizes .matrix) done in
           rw (ap accepted (sym e) ∙ passed)
           (record {
-            result = ap resultOf (both .0);
-            matrix = both .1 ∙ ap (λ v. store (blockedPlace n b) (cholesky (height n) a (finished Blocked n b v)) m) (both .0);
+            result = ap judgedResult (both .0);
+            matrix = both .1 ∙ ap (λ (r : Judgement). store (blockedPlace n b) (cholesky (height n) a (finished Blocked n b (r .verdict))) m) (both .0);
             work = ap (λ k. replicate (blockWork n b) zero64 ++ drop k w) size;
           })

@@ -16,7 +16,7 @@ use Rattle.shape.proofs.Rows.{place-in-block-row, row-start-under}
 use Rattle.shape.proofs.Columns.{triangle-exact}
 use Rattle.shape.proofs.Blocks.{block-of-le, block-of-lt, block-of-block, block-of-next, block-before, block-end, width-le, width-le-block, width-full, width-last, blocked-place-at, blocked-place-block}
 use Rattle.shape.proofs.Bounds.{block-start-mono}
-use Rattle.calls.specs.declared.Verdict.{Verdict}
+use Rattle.calls.specs.declared.Judgement.{Judgement}
 use Rattle.calls.specs.Triangles.{Triangle}
 use Rattle.calls.specs.Arithmetic.{minusProducts}
 use Rattle.calls.specs.Refusals.{accepted}
@@ -64,9 +64,9 @@ module _ {n b c len : ℕ} (here : BlockAt n b c len) where
 -- ---- the block column
 
 module _
-    {n b c : ℕ} {m m₁ m₂ q : List Float} {answer : Verdict} (here : BlockAt n b c (length m))
+    {n b c : ℕ} {m m₁ m₂ q : List Float} {before answer : Judgement} (here : BlockAt n b c (length m))
     (update : PanelUpdated (blockStart n c) (width n b c) (n - c) 0 (width n b c) (rowOf n b c m) c m m₁)
-    (factored : BlockColumnFactored c (width n b c) (n - c) (take (length m₁ - blockStart n c) (drop (blockStart n c) m₁)) answer q)
+    (factored : BlockColumnFactored c (width n b c) (n - c) before (take (length m₁ - blockStart n c) (drop (blockStart n c) m₁)) answer q)
     (lent : Replaced nan (blockStart n c) (length m₁ - blockStart n c) m₁ q m₂) where
   abbrev start : ℕ
   start = blockStart n c
@@ -143,14 +143,14 @@ module _
               high-kept (blockedPlace n b i j) (place-after here i j e high) ∙ known .entries i j e (omega arith);
         }
 
-  pub block-factored : BlockFactored n b c m answer m₂
+  pub block-factored : BlockFactored n b c before m answer m₂
   block-factored =
       record {
         kept = lent .size ∙ update .kept;
-        before = low-kept;
-        after = high-kept;
+        earlier = low-kept;
+        later = high-kept;
         finished = block-finished;
-        judged = λ a known first. factored .verdict n a (order a known) (stage a known) first;
+        judged = λ a known. factored .judgement n a (order a known) (stage a known);
       }
 
 -- ---- entry values kept and put back
@@ -192,8 +192,8 @@ module _ {n b c len : ℕ} (here : BlockAt n b c len) where
       )
 
 module _
-    {n b c : ℕ} {m m₁ : List Float} {answer : Verdict} (factored : BlockFactored n b c m answer m₁) where
-  pub done-accepted : accepted answer ≡ true → BlockDone n b c m answer m₁
+    {n b c : ℕ} {m m₁ : List Float} {before answer : Judgement} (factored : BlockFactored n b c before m answer m₁) where
+  pub done-accepted : accepted (answer .verdict) ≡ true → BlockDone n b c before m answer m₁
   done-accepted passed =
       record {
         kept = factored .kept;
@@ -205,8 +205,8 @@ module _
   -- the entry values go to the work memory, stay there, and come back
   pub done-refused :
       {m₂ work₀ work work′ : List Float} {spare : ℕ → Float} {start size rest : ℕ} → start ≡ blockStart n c → size ≡ rowStart (width n b c) (n - c) →
-      accepted answer ≡ false → Filled nan 0 size (rowAt m start) work₀ work → Filled nan size rest spare work work′ →
-      Filled nan start size (rowAt work′ 0) m₁ m₂ → BlockDone n b c m answer m₂
+      accepted (answer .verdict) ≡ false → Filled nan 0 size (rowAt m start) work₀ work → Filled nan size rest spare work work′ →
+      Filled nan start size (rowAt work′ 0) m₁ m₂ → BlockDone n b c before m answer m₂
   done-refused {m₂} {start = start} {size = size} es ez refused saved lent filled =
       record {
         kept = filled .size ∙ factored .kept;
@@ -216,8 +216,8 @@ module _
       }
     where
       at : (p : ℕ) → Dec (p < start) → Dec (p < start + size) → getD m₂ p nan ≡ getD m p nan
-      at p (yes low) d = filled .before p low ∙ factored .before p (omega arith)
-      at p (no low) (no high) = filled .after p (omega arith) ∙ factored .after p (omega arith)
+      at p (yes low) d = filled .before p low ∙ factored .earlier p (omega arith)
+      at p (no low) (no high) = filled .after p (omega arith) ∙ factored .later p (omega arith)
       at p (no low) (yes inside) =
           let place : start + (p - start) ≡ p = omega arith in
           let value : getD m₂ (start + (p - start)) nan ≡ getD m (start + (p - start)) nan =

@@ -1,11 +1,11 @@
 -- The verdict of a finished block column, from the first refusal by a pivot and the lowest column with an overflow. Assumes nothing.
 use Prim.Native.Nat.{ℕ, zero, suc, _+_, _-_, _≤_, _<_}
-use native.Mathlib.Nat.{add-zero, add-suc}
+use native.Mathlib.Nat.{add-zero}
 use native.Mathlib.Omega.{arith}
 use native.Mathlib.Decide.{decLt}
-use mathlib.Core.Path.{_≡_, sym, ap, _∙_, subst}
+use mathlib.Core.Path.{_≡_, refl, sym, ap, _∙_, subst}
 use mathlib.Core.Logic.{_⊎_, inl, inr}
-use mathlib.Core.Bool.{true, false, not, _&&_, and-true}
+use mathlib.Core.Bool.{Bool, true, false, not, _&&_, and-true}
 use mathlib.Core.List.{List, [], _∷_}
 use lib.Dec.{T}
 use lib.ListN.{length, getD, take}
@@ -13,28 +13,24 @@ use lib.Seq.{getD-take, length-take-le}
 use lib.Ieee.{Float, nan}
 use lib.Ieee.Bits.{is-true}
 use Rattle.binary64.specs.Kinds.{finite}
-use Rattle.binary64.specs.Root.{root}
+use Rattle.binary64.specs.Root.{root, exact}
 use Rattle.binary64.specs.Judged.{judged}
 use Rattle.binary64.specs.declared.Pivot.the-variants.{Root}
 use Rattle.calls.specs.declared.Verdict.{Verdict}
-use Rattle.calls.specs.Sequences.{grow, tabulate, all}
+use Rattle.calls.specs.declared.Judgement.{Judgement}
+use Rattle.calls.specs.Sequences.{grow, tabulate, all, every}
 use Rattle.calls.specs.Triangles.{Triangle, height}
 use Rattle.calls.specs.Arithmetic.{pivot, quotient, below}
 use Rattle.calls.specs.Refusals.{success, accepted, lowestRefusal, columnRules, columnVerdict}
+use Rattle.calls.specs.Judgements.{judgement}
 use Rattle.calls.proofs.Sequences.{length-tabulate, getD-tabulate, tabulate-same, all-append, all-at, all-of}
-use Rattle.calls.proofs.Columns.{columns, entry-diagonal, entry-quotient}
+use Rattle.calls.proofs.Columns.{columns, entry-quotient}
 use Rattle.calls.proofs.Refusals.{Lowest, lowest-success, lowest-same, lowest-accepted, lowest-refused}
 use Rattle.calls.proofs.Judging.{lowest-found}
-use Rattle.calls.proofs.ColumnRules.{rules-success, rules-place, rules-pivot, rules-below, rules-accepted}
+use Rattle.calls.proofs.ColumnRules.{rules-success, rules-place, rules-pivot, rules-below, rules-root, rules-accepted}
 use Rattle.blocked_factor.specs.BlockColumns.{rowStart, columnFinite, LowestOverflow}
-use Rattle.blocked_factor.specs.BlockStages.{judgeColumn, judgePivot, Stage, allRows, ColumnsFinished, BlockVerdict, BlockColumnFactored}
+use Rattle.blocked_factor.specs.BlockStages.{judgeColumn, judgePivot, exactColumn, columnsTo, pivotsTo, Stage, allRows, ColumnsFinished, BlockVerdict, BlockColumnFactored}
 use Rattle.blocked_factor.proofs.BlockRows.{row-lt}
-
--- what is refused stays refused
-pub lowest-stays : (judge : ℕ → Verdict) (k d : ℕ) → accepted (lowestRefusal judge k) ≡ false → lowestRefusal judge (k + d) ≡ lowestRefusal judge k
-unfolding lowestRefusal
-lowest-stays judge k zero e = rw add-zero
-lowest-stays judge k (suc d) e = rw (add-suc, lowest-stays judge k d e, e)
 
 pub judge-success : (n : ℕ) (a : Triangle) (j : ℕ) → T (accepted (judgeColumn n a j)) → judgeColumn n a j ≡ success
 unfolding columnVerdict
@@ -154,7 +150,7 @@ module _
 
   module _ (first : Verdict) (e : first ≡ lowestRefusal (judgePivot n a) (c + w)) where
     -- no overflow
-    pub verdict-first : s ≡ w → first ≡ lowestRefusal (judgeColumn n a) (c + w)
+    verdict-first : s ≡ w → first ≡ lowestRefusal (judgeColumn n a) (c + w)
     verdict-first end =
         e ∙ sym (lowest-same (judgeColumn n a) (judgePivot n a) (c + w) (λ j low. same j (omega arith)))
 
@@ -173,7 +169,7 @@ module _
         ∙ rules-place (found .at) (judged (pivotOf (found .at))) true (ap (λ r. accepted r) (sym here) ∙ refused)
 
     -- a pivot refuses its column, and no column before it overflows
-    pub verdict-pivot : s < w → accepted first ≡ false → first .place ≤ c + s → first ≡ lowestRefusal (judgeColumn n a) (c + w)
+    verdict-pivot : s < w → accepted first ≡ false → first .place ≤ c + s → first ≡ lowestRefusal (judgeColumn n a) (c + w)
     verdict-pivot narrow refused low =
         let found : Found = refusal-of refused in
         let j : ℕ = found .at in
@@ -195,26 +191,29 @@ module _
 
     -- the overflow decides where no pivot up to its column refuses
     verdict-below :
-        s < w → ((j : ℕ) → j < suc (c + s) → T (accepted (judgePivot n a j))) →
-        columnRules (c + s) (Root (getD m (rowStart w s + s) nan)) false ≡ lowestRefusal (judgeColumn n a) (c + w)
-    verdict-below narrow each =
+        s < w → ((j : ℕ) → j < suc (c + s) → T (accepted (judgePivot n a j))) → (d : Float) (t : Bool) →
+        (columnRules (c + s) (Root d t) false ≡ lowestRefusal (judgeColumn n a) (c + w)) × (accepted (lowestRefusal (judgeColumn n a) (c + w)) ≡ false)
+    verdict-below narrow each d t =
+        let x : Float = pivotOf (c + s) in
         let passes : T (accepted (judgePivot n a (c + s))) = each (c + s) (omega arith) in
-        let diagonal : getD m (rowStart w s + s) nan ≡ root (pivotOf (c + s)) =
-        stage .finished s s (omega arith) (omega arith) narrow narrow ∙ entry-diagonal n a n (c + s) (omega arith)
+        let rooted : judged x ≡ Root (root x) (exact x) = rules-accepted (c + s) x true passes .0 in
+        let equal : judgeColumn n a (c + s) ≡ columnRules (c + s) (judged x) false =
+        column-judged s narrow ∙ ap (columnRules (c + s) (judged x)) (overflow .here narrow)
         in
-        let rooted : judged (pivotOf (c + s)) ≡ Root (root (pivotOf (c + s))) = rules-accepted (c + s) (pivotOf (c + s)) true passes .0 in
-        let equal : judgeColumn n a (c + s) ≡ columnRules (c + s) (judged (pivotOf (c + s))) false =
-        column-judged s narrow ∙ ap (columnRules (c + s) (judged (pivotOf (c + s)))) (overflow .here narrow)
-        in
-        ap (λ p. columnRules (c + s) p false) (ap Root diagonal ∙ sym rooted)
-        ∙ sym equal
-        ∙ sym
-        (lowest-found (judgeColumn n a) (c + s) (c + w) (omega arith) (columns-pass (c + s) (omega arith) (λ j low. each j (omega arith)))
-        (ap (λ r. accepted r) equal ∙ rules-below (c + s) (judged (pivotOf (c + s))) passes))
+        let refused : accepted (judgeColumn n a (c + s)) ≡ false = ap (λ r. accepted r) equal ∙ rules-below (c + s) (judged x) passes in
+        let found : lowestRefusal (judgeColumn n a) (c + w) ≡ judgeColumn n a (c + s) =
+        lowest-found (judgeColumn n a) (c + s) (c + w) (omega arith) (columns-pass (c + s) (omega arith) (λ j low. each j (omega arith))) refused
+        in (
+          rules-root (c + s) d (root x) t (exact x) false
+              ∙ ap (λ p. columnRules (c + s) p false) (sym rooted)
+              ∙ sym equal
+              ∙ sym found,
+          ap (λ r. accepted r) found ∙ refused,
+        )
 
-    pub verdict-overflow :
-        s < w → (accepted first ≡ true) ⊎ ((accepted first ≡ false) × (c + s < first .place)) →
-        columnRules (c + s) (Root (getD m (rowStart w s + s) nan)) false ≡ lowestRefusal (judgeColumn n a) (c + w)
+    verdict-overflow :
+        s < w → (accepted first ≡ true) ⊎ ((accepted first ≡ false) × (c + s < first .place)) → (d : Float) (t : Bool) →
+        (columnRules (c + s) (Root d t) false ≡ lowestRefusal (judgeColumn n a) (c + w)) × (accepted (lowestRefusal (judgeColumn n a) (c + w)) ≡ false)
     verdict-overflow narrow (inl passed) =
         verdict-below narrow
         (λ j low.
@@ -222,17 +221,41 @@ module _
     verdict-overflow narrow (inr refused) =
         verdict-below narrow (λ j low. refusal-of (refused .0) .before j (omega (arith, place-of (refused .0), refused .1)))
 
--- ---- values, and then the verdict
+  -- ---- what the columns are judged to
+
+  module _ (first : Judgement) (e : first ≡ pivotsTo n a (c + w)) where
+    verdict-is : first .verdict ≡ lowestRefusal (judgePivot n a) (c + w)
+    verdict-is = ap (λ (r : Judgement). r .verdict) e
+
+    judged-same : first .verdict ≡ lowestRefusal (judgeColumn n a) (c + w) → first ≡ columnsTo n a (c + w)
+    judged-same v = e ∙ ap (λ r. judgement r (every (exactColumn n a) (c + w))) (sym verdict-is ∙ v)
+
+    pub judged-first : s ≡ w → first ≡ columnsTo n a (c + w)
+    judged-first end = judged-same (verdict-first (first .verdict) verdict-is end)
+
+    pub judged-pivot : s < w → accepted (first .verdict) ≡ false → first .verdict .place ≤ c + s → first ≡ columnsTo n a (c + w)
+    judged-pivot narrow refused low = judged-same (verdict-pivot (first .verdict) verdict-is narrow refused low)
+
+    pub judged-overflow :
+        s < w → (accepted (first .verdict) ≡ true) ⊎ ((accepted (first .verdict) ≡ false) × (c + s < first .verdict .place)) → (d : Float) (t : Bool) →
+        judgement (columnRules (c + s) (Root d t) false) t ≡ columnsTo n a (c + w)
+    judged-overflow narrow decided d t =
+        let found = verdict-overflow (first .verdict) verdict-is narrow decided d t in
+        rw (found .0, found .1) refl
+
+-- ---- values, and then what the columns are judged to
 
 pub block-column-factored :
-    (c w h : ℕ) (m m′ : List Float) (first answer : Verdict) → ColumnsFinished c w h 0 w success m first m′ → BlockVerdict c w h first m′ answer →
-    BlockColumnFactored c w h m answer m′
-block-column-factored c w h m m′ first answer columns judged =
+    (c w h : ℕ) (m m′ : List Float) (before first answer : Judgement) → ColumnsFinished c w h 0 w before m first m′ → BlockVerdict c w h first m′ answer →
+    BlockColumnFactored c w h before m answer m′
+block-column-factored c w h m m′ before first answer columns judged =
     record {
       kept = columns .kept;
       beyond = columns .beyond;
       stage = columns .stage;
-      verdict = λ n a order stage before.
-          judged n a order (columns .stage n a order stage) before
-          (columns .verdict n a order stage (rw add-zero (sym (pivots-before n a c before))));
+      judgement = λ n a order stage passed is.
+          let by-pivots : before ≡ pivotsTo n a c =
+          is ∙ ap (λ r. judgement r (every (exactColumn n a) c)) (passed ∙ sym (pivots-before n a c passed))
+          in
+          judged n a order (columns .stage n a order stage) passed (columns .judgement n a order stage (rw add-zero by-pivots));
     }

@@ -11,17 +11,18 @@ use lib.ListN.{length, getD, set, length-set}
 use lib.Seq.{getD-set-same, getD-set-other}
 use lib.Ieee.{Float, nan, binary64, div}
 use Rattle.binary64.specs.Kinds.{positive}
-use Rattle.binary64.specs.Root.{root}
-use Rattle.binary64.specs.Judged.{judged}
+use Rattle.binary64.specs.Root.{root, exact}
+use Rattle.binary64.specs.Judged.{judged, exactRoot}
 use Rattle.binary64.specs.declared.Pivot.{Pivot}
 use Rattle.binary64.specs.declared.Pivot.the-variants.{Root, Refused}
-use Rattle.calls.specs.declared.Verdict.{Verdict}
+use Rattle.calls.specs.declared.Judgement.{Judgement}
 use Rattle.calls.specs.Triangles.{Triangle}
 use Rattle.calls.specs.Arithmetic.{minusProducts}
-use Rattle.calls.specs.Refusals.{accepted, lowestRefusal, columnRules}
+use Rattle.calls.specs.Refusals.{columnRules, columnExact}
+use Rattle.calls.specs.Judgements.{judgement, Joined}
 use Rattle.kernels.specs.Kernels.{Scattered, rowAt}
 use Rattle.blocked_factor.specs.BlockColumns.{rowStart, lessPanel, PanelUpdated, ColumnDivided, rootOf}
-use Rattle.blocked_factor.specs.BlockStages.{judgePivot, Stage, allRows, rowsTo, topRows, RowsFinished, DiagonalFinished, TriangleFinished, BelowFinished, ColumnsFinished}
+use Rattle.blocked_factor.specs.BlockStages.{judgePivot, exactColumn, pivotsTo, Stage, allRows, rowsTo, topRows, RowsFinished, DiagonalFinished, TriangleFinished, BelowFinished, ColumnsFinished}
 use Rattle.blocked_factor.proofs.BlockRows.{row-next, row-mono, row-lt, row-apart}
 use Rattle.blocked_factor.proofs.Stages.{rows-in, rows-above, rows-under, stage-same, panel-pivot, panel-root, panel-quotient, stage-next, stage-updated, stage-all}
 
@@ -133,20 +134,20 @@ root-of : (x : Float) → rootOf (judged x) ≡ root x
 unfolding judged
 root-of x = go (positive x)
   where
-    go : (b : Bool) → rootOf (cond b (Root (root x)) (Refused x)) ≡ root x
+    go : (b : Bool) → rootOf (cond b (Root (root x) (exact x)) (Refused x)) ≡ root x
     go true = refl
     go false = refl
 
-module _ (c w s0 s : ℕ) (before answer : Verdict) (m : List Float) (left : s0 ≤ s) (narrow : s < w) (room : rowStart w (s + 1) ≤ length m) where
+module _ (c w s0 s : ℕ) (before answer : Judgement) (m : List Float) (left : s0 ≤ s) (narrow : s < w) (room : rowStart w (s + 1) ≤ length m) where
   pub diagonal-finished :
       (q : Pivot) →
       q
       ≡ judged
       (minusProducts (rowAt m (rowStart w s + s0)) (rowAt m (rowStart w s + s0)) (s - s0) (getD m (rowStart w s + s0 + (s - s0)) nan)) →
-      answer ≡ cond (accepted before) (columnRules (c + s) q true) before →
+      Joined before (judgement (columnRules (c + s) q true) (exactRoot q)) answer →
       DiagonalFinished c w s0 s before m answer (set m (rowStart w s + s0 + (s - s0)) (rootOf q))
-  unfolding lowestRefusal
-  diagonal-finished q pivot judgement =
+  unfolding columnExact
+  diagonal-finished q pivot joined =
       let place : rowStart w s + s0 + (s - s0) ≡ rowStart w s + s = omega arith in
       let p : Float = lessPanel w s0 m s s in
       let d : Float = rootOf q in
@@ -167,17 +168,16 @@ module _ (c w s0 s : ℕ) (before answer : Verdict) (m : List Float) (left : s0 
             (λ x none. getD-set-other m (rowStart w s + s) x d nan (none s (omega arith) (omega arith)))
             (λ r l h. let same : r ≡ s = omega arith in rw same here) (λ r. rows-in s (s + 1) (s + 1) limit r)
             (λ r. rows-above s (s + 1) (s + 1) limit r) (λ r. rows-under s (s + 1) (s + 1) limit r);
-        verdict = λ n a e limit high right here stage first.
-            let next : c + (s + 1) ≡ suc (c + s) = omega arith in
-            judgement
-            ∙ ap₂ (λ b x. cond (accepted b) (columnRules (c + s) x true) b) first
-            (is ∙ ap judged (panel-pivot stage s left right narrow high here))
-            ∙ sym (ap (lowestRefusal (judgePivot n a)) next);
+        judgement = λ n a e limit high right here stage first.
+            let next : c + s + 1 ≡ c + (s + 1) = omega arith in
+            joined (judgePivot n a) (exactColumn n a) (c + s) first
+            (ap (λ x. judgement (columnRules (c + s) x true) (exactRoot x)) (is ∙ ap judged (panel-pivot stage s left right narrow high here)))
+            ∙ ap (pivotsTo n a) next;
       })
 
 -- ---- the rows with the diagonals
 
-pub triangle-none : (c w s0 e : ℕ) (v : Verdict) (m : List Float) → TriangleFinished c w s0 e s0 v m v m
+pub triangle-none : (c w s0 e : ℕ) (v : Judgement) (m : List Float) → TriangleFinished c w s0 e s0 v m v m
 triangle-none c w s0 e v m =
     record {
       kept = refl;
@@ -195,11 +195,11 @@ triangle-none c w s0 e v m =
             | no p ↦ rw (rows-under 0 s0 e (allRows s0) r (omega arith)) at over
           ])
           stage;
-      verdict = λ n a fit stage first. first;
+      judgement = λ n a fit stage first. first;
     }
 
 module _
-    {c w s0 e s : ℕ} {v v₁ v₂ : Verdict} {m m₁ m₂ m₃ : List Float} (left : s0 ≤ s) (right : s < e) (before : TriangleFinished c w s0 e s v m v₁ m₁)
+    {c w s0 e s : ℕ} {v v₁ v₂ : Judgement} {m m₁ m₂ m₃ : List Float} (left : s0 ≤ s) (right : s < e) (before : TriangleFinished c w s0 e s v m v₁ m₁)
     (row : RowsFinished w s0 s s (s + 1) m₁ m₂) (diagonal : DiagonalFinished c w s0 s v₁ m₂ v₂ m₃) where
   module _ (n : ℕ) (a : Triangle) (fit : c + (s + 1) ≤ n) (stage : Stage n a c w s0 e (allRows s0) m) where
     abbrev limit : ℕ → ℕ
@@ -251,10 +251,10 @@ module _
         beyond = λ p far.
             diagonal .beyond p far ∙ row .beyond p far ∙ before .beyond p (omega (arith, row-mono w s (s + 1) (omega arith)));
         stage = diagonal-stage;
-        verdict = λ n a fit stage first.
-            diagonal .verdict n a e (limit n a fit stage) (omega arith) right
+        judgement = λ n a fit stage first.
+            diagonal .judgement n a e (limit n a fit stage) (omega arith) right
             (rows-in s (s + 1) s (topRows s0 e s) s (omega arith) (omega arith)) (row-finished n a fit stage)
-            (before .verdict n a (omega arith) stage first);
+            (before .judgement n a (omega arith) stage first);
       }
 
 -- ---- the rows below
@@ -296,7 +296,7 @@ below-next {w} {s0} {e} {from} {r} {m} {m₁} {m₂} g low before rows =
 -- ---- panels
 
 pub panel-finished :
-    {c w h s0 g : ℕ} {before answer : Verdict} {m m₁ m₂ m₃ : List Float} → s0 + g ≤ w → w ≤ h →
+    {c w h s0 g : ℕ} {before answer : Judgement} {m m₁ m₂ m₃ : List Float} → s0 + g ≤ w → w ≤ h →
     PanelUpdated 0 w h s0 g (λ q. rowAt m (0 + rowStart w q)) s0 m m₁ → TriangleFinished c w s0 (s0 + g) (s0 + g) before m₁ answer m₂ →
     BelowFinished w s0 (s0 + g) (s0 + g) h m₂ m₃ → ColumnsFinished c w h s0 (s0 + g) before m answer m₃
 panel-finished {c} {w} {h} {s0} {g} {m = m} {m₁} {m₂} {m₃} wide tall update triangle below =
@@ -310,21 +310,21 @@ panel-finished {c} {w} {h} {s0} {g} {m = m} {m₁} {m₂} {m₃} wide tall updat
           stage-all n a c w h s0 (s0 + g) m₃ order
           (below .stage n a c (omega arith)
           (triangle .stage n a (omega arith) (stage-updated n a c w h s0 g m m₁ order wide tall stage update)));
-      verdict = λ n a order stage first.
-          triangle .verdict n a (omega arith) (stage-updated n a c w h s0 g m m₁ order wide tall stage update) first;
+      judgement = λ n a order stage first.
+          triangle .judgement n a (omega arith) (stage-updated n a c w h s0 g m m₁ order wide tall stage update) first;
     }
 
-pub columns-none : (c w h s : ℕ) (v : Verdict) (m : List Float) → ColumnsFinished c w h s s v m v m
+pub columns-none : (c w h s : ℕ) (v : Judgement) (m : List Float) → ColumnsFinished c w h s s v m v m
 columns-none c w h s v m =
-    record { kept = refl; beyond = λ p far. refl; stage = λ n a order stage. stage; verdict = λ n a order stage first. first }
+    record { kept = refl; beyond = λ p far. refl; stage = λ n a order stage. stage; judgement = λ n a order stage first. first }
 
 pub columns-join :
-    {c w h s s′ s″ : ℕ} {v v₁ v₂ : Verdict} {m m₁ m₂ : List Float} → ColumnsFinished c w h s s′ v m v₁ m₁ → ColumnsFinished c w h s′ s″ v₁ m₁ v₂ m₂ →
+    {c w h s s′ s″ : ℕ} {v v₁ v₂ : Judgement} {m m₁ m₂ : List Float} → ColumnsFinished c w h s s′ v m v₁ m₁ → ColumnsFinished c w h s′ s″ v₁ m₁ v₂ m₂ →
     ColumnsFinished c w h s s″ v m v₂ m₂
 columns-join before then =
     record {
       kept = then .kept ∙ before .kept;
       beyond = λ p far. then .beyond p far ∙ before .beyond p far;
       stage = λ n a order stage. then .stage n a order (before .stage n a order stage);
-      verdict = λ n a order stage first. then .verdict n a order (before .stage n a order stage) (before .verdict n a order stage first);
+      judgement = λ n a order stage first. then .judgement n a order (before .stage n a order stage) (before .judgement n a order stage first);
     }

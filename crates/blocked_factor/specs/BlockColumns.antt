@@ -70,7 +70,7 @@ pub record ColumnDivided (w s0 s from to : ℕ) (m m′ : List Float) : Type 0 w
 
 -- the root of a judged pivot, whatever the pivot is
 abbrev pub rootOf : Pivot → Float
-rootOf (Root d) = d
+rootOf (Root d e) = d
 rootOf (Refused v) = root v
 
 -- the entries below the diagonal of column s are finite

@@ -1,16 +1,18 @@
 -- How far a block column of a matrix `a` of order n is worked on, and how it is judged. It begins with column c and its memory at place 0.
 use Prim.Native.Nat.{ℕ, _+_, _≤_, _<_}
 use mathlib.Core.Path.{_≡_}
-use mathlib.Core.Bool.{true, cond, _&&_}
+use mathlib.Core.Bool.{Bool, true, cond, _&&_}
 use mathlib.Core.List.{List}
 use lib.Dec.{leb, ltb}
 use lib.ListN.{length, getD}
 use lib.Ieee.{Float, nan}
 use Rattle.binary64.specs.Judged.{judged}
 use Rattle.calls.specs.declared.Verdict.{Verdict}
+use Rattle.calls.specs.declared.Judgement.{Judgement}
 use Rattle.calls.specs.Triangles.{Triangle, entry, height}
 use Rattle.calls.specs.Arithmetic.{minusProducts, pivot, cholesky}
-use Rattle.calls.specs.Refusals.{success, lowestRefusal, columnRules, columnVerdict}
+use Rattle.calls.specs.Refusals.{success, lowestRefusal, columnRules, columnVerdict, columnExact}
+use Rattle.calls.specs.Judgements.{judgedTo}
 use Rattle.blocked_factor.specs.BlockColumns.{rowStart}
 
 -- an entry of the factor
@@ -27,6 +29,16 @@ judgeColumn n a = λ j. columnVerdict (height n) a (cholesky (height n) a j) j
 -- what a column is judged to where the entries below its pivot are finite
 abbrev pub judgePivot : ℕ → Triangle → ℕ → Verdict
 judgePivot n a = λ j. columnRules j (judged (pivot a (cholesky (height n) a j) j)) true
+
+abbrev pub exactColumn : ℕ → Triangle → ℕ → Bool
+exactColumn n a = λ j. columnExact a (cholesky (height n) a j) j
+
+-- what the first k columns are judged to, and what by their pivots alone
+abbrev pub columnsTo : ℕ → Triangle → ℕ → Judgement
+columnsTo n a k = judgedTo (judgeColumn n a) (exactColumn n a) k
+
+abbrev pub pivotsTo : ℕ → Triangle → ℕ → Judgement
+pivotsTo n a k = judgedTo (judgePivot n a) (exactColumn n a) k
 
 -- Row r is finished in its columns before `limit r`. Its other columns before e have the products with columns before c + s0 subtracted, and the
 -- rest those before c.
@@ -56,27 +68,26 @@ pub record RowsFinished (w s0 end from to : ℕ) (m m′ : List Float) : Type 0 
       (n : ℕ) (a : Triangle) (c e : ℕ) (limit : ℕ → ℕ) → c + to ≤ n → end ≤ e → ((k : ℕ) → s0 ≤ k → k < end → k < limit k) →
       ((r : ℕ) → from ≤ r → r < to → limit r ≡ s0) → Stage n a c w s0 e limit m → Stage n a c w s0 e (rowsTo from to end limit) m′
 
--- The diagonal entry of column s, which is column c + s of the matrix, is finished, given its row. `before` is the first refusal by a pivot of an
--- earlier column, or success, and `answer` that of a column up to this one.
-pub record DiagonalFinished (c w s0 s : ℕ) (before : Verdict) (m : List Float) (answer : Verdict) (m′ : List Float) : Type 0 where
+-- The diagonal entry of column s, which is column c + s of the matrix, is finished, given its row. `before` is what the earlier columns are judged to by
+-- their pivots, and `answer` what those up to this one are.
+pub record DiagonalFinished (c w s0 s : ℕ) (before : Judgement) (m : List Float) (answer : Judgement) (m′ : List Float) : Type 0 where
   pub kept : length m′ ≡ length m
   pub beyond : (p : ℕ) → rowStart w (s + 1) ≤ p → getD m′ p nan ≡ getD m p nan
   pub stage :
       (n : ℕ) (a : Triangle) (e : ℕ) (limit : ℕ → ℕ) → c + s < n → s < e → limit s ≡ s → Stage n a c w s0 e limit m →
       Stage n a c w s0 e (rowsTo s (s + 1) (s + 1) limit) m′
-  pub verdict :
+  pub judgement :
       (n : ℕ) (a : Triangle) (e : ℕ) (limit : ℕ → ℕ) → c + s < n → s < e → limit s ≡ s → Stage n a c w s0 e limit m →
-      before ≡ lowestRefusal (judgePivot n a) (c + s) → answer ≡ lowestRefusal (judgePivot n a) (c + (s + 1))
+      before ≡ pivotsTo n a (c + s) → answer ≡ pivotsTo n a (c + (s + 1))
 
 -- Rows before `to` of the panel of columns s0 .. e − 1 are finished, from row s0 on; the columns of their diagonals are judged by their pivots.
-pub record TriangleFinished (c w s0 e to : ℕ) (before : Verdict) (m : List Float) (answer : Verdict) (m′ : List Float) : Type 0 where
+pub record TriangleFinished (c w s0 e to : ℕ) (before : Judgement) (m : List Float) (answer : Judgement) (m′ : List Float) : Type 0 where
   pub kept : length m′ ≡ length m
   pub beyond : (p : ℕ) → rowStart w to ≤ p → getD m′ p nan ≡ getD m p nan
   pub stage :
       (n : ℕ) (a : Triangle) → c + to ≤ n → Stage n a c w s0 e (allRows s0) m → Stage n a c w s0 e (topRows s0 e to) m′
-  pub verdict :
-      (n : ℕ) (a : Triangle) → c + to ≤ n → Stage n a c w s0 e (allRows s0) m → before ≡ lowestRefusal (judgePivot n a) (c + s0) →
-      answer ≡ lowestRefusal (judgePivot n a) (c + to)
+  pub judgement :
+      (n : ℕ) (a : Triangle) → c + to ≤ n → Stage n a c w s0 e (allRows s0) m → before ≡ pivotsTo n a (c + s0) → answer ≡ pivotsTo n a (c + to)
 
 -- Rows from `from` to `to` − 1 of a panel are finished after those above them.
 pub record BelowFinished (w s0 e from to : ℕ) (m m′ : List Float) : Type 0 where
@@ -86,26 +97,25 @@ pub record BelowFinished (w s0 e from to : ℕ) (m m′ : List Float) : Type 0 w
       (n : ℕ) (a : Triangle) (c : ℕ) → c + to ≤ n → Stage n a c w s0 e (topRows s0 e from) m → Stage n a c w s0 e (topRows s0 e to) m′
 
 -- Columns from `from` to `to` − 1 of a block column of h rows are finished, and judged by their pivots.
-pub record ColumnsFinished (c w h from to : ℕ) (before : Verdict) (m : List Float) (answer : Verdict) (m′ : List Float) : Type 0 where
+pub record ColumnsFinished (c w h from to : ℕ) (before : Judgement) (m : List Float) (answer : Judgement) (m′ : List Float) : Type 0 where
   pub kept : length m′ ≡ length m
   pub beyond : (p : ℕ) → rowStart w h ≤ p → getD m′ p nan ≡ getD m p nan
   pub stage :
       (n : ℕ) (a : Triangle) → c + h ≡ n → Stage n a c w from from (allRows from) m → Stage n a c w to to (allRows to) m′
-  pub verdict :
-      (n : ℕ) (a : Triangle) → c + h ≡ n → Stage n a c w from from (allRows from) m → before ≡ lowestRefusal (judgePivot n a) (c + from) →
-      answer ≡ lowestRefusal (judgePivot n a) (c + to)
+  pub judgement :
+      (n : ℕ) (a : Triangle) → c + h ≡ n → Stage n a c w from from (allRows from) m → before ≡ pivotsTo n a (c + from) → answer ≡ pivotsTo n a (c + to)
 
--- A finished block column is judged, given the first refusal by a pivot.
-abbrev pub BlockVerdict : ℕ → ℕ → ℕ → Verdict → List Float → Verdict → Type 0
+-- A finished block column is judged, given what the columns up to its end are judged to by their pivots.
+abbrev pub BlockVerdict : ℕ → ℕ → ℕ → Judgement → List Float → Judgement → Type 0
 BlockVerdict c w h first m answer =
     (n : ℕ) (a : Triangle) → c + h ≡ n → Stage n a c w w w (allRows w) m → lowestRefusal (judgeColumn n a) c ≡ success →
-    first ≡ lowestRefusal (judgePivot n a) (c + w) → answer ≡ lowestRefusal (judgeColumn n a) (c + w)
+    first ≡ pivotsTo n a (c + w) → answer ≡ columnsTo n a (c + w)
 
--- A block column holds what `cholesky` gives, and is judged.
-pub record BlockColumnFactored (c w h : ℕ) (m : List Float) (answer : Verdict) (m′ : List Float) : Type 0 where
+-- A block column holds what `cholesky` gives, and is judged, `before` being what the accepted columns before it are judged to.
+pub record BlockColumnFactored (c w h : ℕ) (before : Judgement) (m : List Float) (answer : Judgement) (m′ : List Float) : Type 0 where
   pub kept : length m′ ≡ length m
   pub beyond : (p : ℕ) → rowStart w h ≤ p → getD m′ p nan ≡ getD m p nan
   pub stage : (n : ℕ) (a : Triangle) → c + h ≡ n → Stage n a c w 0 0 (allRows 0) m → Stage n a c w w w (allRows w) m′
-  pub verdict :
+  pub judgement :
       (n : ℕ) (a : Triangle) → c + h ≡ n → Stage n a c w 0 0 (allRows 0) m → lowestRefusal (judgeColumn n a) c ≡ success →
-      answer ≡ lowestRefusal (judgeColumn n a) (c + w)
+      before ≡ columnsTo n a c → answer ≡ columnsTo n a (c + w)

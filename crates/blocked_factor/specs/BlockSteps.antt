@@ -8,13 +8,13 @@ use lib.Ieee.{Float, nan}
 use Rattle.shape.specs.Bounds.{maxOrder, maxBlock}
 use Rattle.shape.specs.Places.{triangle, blockOf, blockStart, width, blockedPlace, blockWork}
 use Rattle.shape.specs.Layouts.{Entry}
-use Rattle.calls.specs.declared.Verdict.{Verdict}
+use Rattle.calls.specs.declared.Judgement.{Judgement}
 use Rattle.calls.specs.Triangles.{Triangle, entry}
 use Rattle.calls.specs.Refusals.{success, accepted, lowestRefusal}
 use Rattle.calls.specs.declared.Layout.the-variants.{Blocked}
 use Rattle.calls.specs.Calls.{finished}
 use Rattle.blocked_factor.specs.BlockColumns.{rowStart}
-use Rattle.blocked_factor.specs.BlockStages.{factorEntry, judgeColumn}
+use Rattle.blocked_factor.specs.BlockStages.{factorEntry, judgeColumn, columnsTo}
 
 -- column c begins a block column of a matrix of order n, with a block length above 1, in a memory of its length
 pub record BlockAt (n b c len : ℕ) : Type 0 where
@@ -34,26 +34,26 @@ pub record FactoredTo (n b : ℕ) (a : Triangle) (c : ℕ) (m : List Float) : Ty
   pub finished : (i j : ℕ) → Entry n i j → j < c → getD m (blockedPlace n b i j) nan ≡ factorEntry n a i j
   pub entries : (i j : ℕ) → Entry n i j → c ≤ j → getD m (blockedPlace n b i j) nan ≡ entry a i j
 
--- the verdict of the columns up to the end of the block column at c, those before it being accepted
-abbrev pub BlockJudged : ℕ → ℕ → ℕ → List Float → Verdict → Type 0
-BlockJudged n b c m answer =
-    (a : Triangle) → FactoredTo n b a c m → lowestRefusal (judgeColumn n a) c ≡ success →
-    answer ≡ lowestRefusal (judgeColumn n a) (c + width n b c)
+-- what the columns up to the end of the block column at c are judged to, those before it being accepted
+abbrev pub BlockJudged : ℕ → ℕ → ℕ → Judgement → List Float → Judgement → Type 0
+BlockJudged n b c before m answer =
+    (a : Triangle) → FactoredTo n b a c m → lowestRefusal (judgeColumn n a) c ≡ success → before ≡ columnsTo n a c →
+    answer ≡ columnsTo n a (c + width n b c)
 
--- The block column at c is finished, and judged. Places before it and past it are as they were.
-pub record BlockFactored (n b c : ℕ) (m : List Float) (answer : Verdict) (m′ : List Float) : Type 0 where
+-- The block column at c is finished, and judged. Earlier and later places are as they were.
+pub record BlockFactored (n b c : ℕ) (before : Judgement) (m : List Float) (answer : Judgement) (m′ : List Float) : Type 0 where
   pub kept : length m′ ≡ length m
-  pub before : (p : ℕ) → p < blockStart n c → getD m′ p nan ≡ getD m p nan
-  pub after : (p : ℕ) → blockStart n c + rowStart (width n b c) (n - c) ≤ p → getD m′ p nan ≡ getD m p nan
+  pub earlier : (p : ℕ) → p < blockStart n c → getD m′ p nan ≡ getD m p nan
+  pub later : (p : ℕ) → blockStart n c + rowStart (width n b c) (n - c) ≤ p → getD m′ p nan ≡ getD m p nan
   pub finished : (a : Triangle) → FactoredTo n b a c m → FactoredTo n b a (c + width n b c) m′
-  pub judged : BlockJudged n b c m answer
+  pub judged : BlockJudged n b c before m answer
 
 -- It is judged, and finished where no column is refused; else all memory is as it was.
-pub record BlockDone (n b c : ℕ) (m : List Float) (answer : Verdict) (m′ : List Float) : Type 0 where
+pub record BlockDone (n b c : ℕ) (before : Judgement) (m : List Float) (answer : Judgement) (m′ : List Float) : Type 0 where
   pub kept : length m′ ≡ length m
-  pub restored : accepted answer ≡ false → m′ ≡ m
-  pub finished : accepted answer ≡ true → (a : Triangle) → FactoredTo n b a c m → FactoredTo n b a (c + width n b c) m′
-  pub judged : BlockJudged n b c m answer
+  pub restored : accepted (answer .verdict) ≡ false → m′ ≡ m
+  pub finished : accepted (answer .verdict) ≡ true → (a : Triangle) → FactoredTo n b a c m → FactoredTo n b a (c + width n b c) m′
+  pub judged : BlockJudged n b c before m answer
 
 -- a matrix of order n and work memory of the needed lengths
 pub record Sized (n b matrixLength workLength : ℕ) : Type 0 where
@@ -64,7 +64,7 @@ pub record Sized (n b matrixLength workLength : ℕ) : Type 0 where
   pub work : workLength ≡ blockWork n b
 
 -- Every block column before that of the lowest refused column is finished, and the others hold the matrix's entries.
-pub record BlocksDone (n b : ℕ) (m : List Float) (answer : Verdict) (m′ : List Float) : Type 0 where
+pub record BlocksDone (n b : ℕ) (m : List Float) (answer : Judgement) (m′ : List Float) : Type 0 where
   pub kept : length m′ ≡ length m
-  pub verdict : (a : Triangle) → FactoredTo n b a 0 m → answer ≡ lowestRefusal (judgeColumn n a) n
-  pub columns : (a : Triangle) → FactoredTo n b a 0 m → FactoredTo n b a (finished Blocked n b answer) m′
+  pub judgement : (a : Triangle) → FactoredTo n b a 0 m → answer ≡ columnsTo n a n
+  pub columns : (a : Triangle) → FactoredTo n b a 0 m → FactoredTo n b a (finished Blocked n b (answer .verdict)) m′

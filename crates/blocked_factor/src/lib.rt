@@ -5,7 +5,6 @@ ghost use lib.ListN.{length, getD, replicate};
 ghost use Rattle.binary64.specs.Kinds.{zero64};
 ghost use Rattle.shape.specs.Bounds.{maxOrder};
 ghost use Rattle.shape.specs.Places.{blockWork};
-ghost use Rattle.calls.specs.Refusals.{success};
 ghost use Rattle.calls.specs.Calls.{DoneAs, factorize};
 ghost use Rattle.blocked_factor.specs.BlockColumns.{rowStart, ColumnDivided, rootOf, columnFinite, LowestOverflow};
 ghost use Rattle.blocked_factor.specs.BlockStages.{RowsFinished, DiagonalFinished, TriangleFinished, BelowFinished, ColumnsFinished, BlockVerdict, BlockColumnFactored};
@@ -16,8 +15,8 @@ mod update;
 
 use binary64::Pivot;
 use calls::CallResult;
+use calls::Judgement;
 use calls::Layout;
-use calls::Verdict;
 use kernels::copy_part;
 use kernels::divide_entry;
 use kernels::minus_products;
@@ -90,20 +89,20 @@ fn diagonal_of(pivot: Pivot) -> f64
     ensures { λ r. ⌜ r ≡ rootOf pivot ⌝ }
 {
     match pivot {
-        Pivot::Root(root) => root,
-        Pivot::Refused(value) => binary64::square_root(value),
+        Pivot::Root(root, _) => root,
+        Pivot::Refused(value) => binary64::square_root(value).value,
     }
 }
 
-// The diagonal of column s, which is column c + s of the matrix, after its row. The first refusal by a pivot is kept.
+// The diagonal of column s, which is column c + s of the matrix, after its row. The columns up to it are judged by their pivots.
 fn finish_diagonal(
     part: &mut [f64],
     c: usize,
     width: usize,
     s0: usize,
     s: usize,
-    before: Verdict,
-) -> Verdict
+    before: Judgement,
+) -> Judgement
     requires { ⌜ (s0 ≤ s) × (s < width) × (c + s < maxOrder) × (rowStart width (s + 1) ≤ length (now part)) ⌝ }
     ensures { λ r. ⌜ DiagonalFinished c width s0 s before (now (part .entry)) r (now (part .exit)) ⌝ }
 {
@@ -111,10 +110,7 @@ fn finish_diagonal(
     let count = s - s0;
     let pivot = binary64::judge(minus_products(part, y, y, count, part[y + count]));
     part[y + count] = diagonal_of(pivot);
-    if calls::accepted(before) {
-        return checks::judge_column(c + s, pivot, true);
-    }
-    before
+    calls::joined(before, checks::judge_column(c + s, pivot, true))
 }
 
 // The rows with the diagonals of columns s0 .. e − 1, one after another.
@@ -124,20 +120,20 @@ fn finish_triangle(
     width: usize,
     s0: usize,
     e: usize,
-    before: Verdict,
-) -> Verdict
+    before: Judgement,
+) -> Judgement
     requires { ⌜ (s0 ≤ e) × (e ≤ width) × (c + e ≤ maxOrder) × (rowStart width e ≤ length (now part)) ⌝ }
     ensures { λ r. ⌜ TriangleFinished c width s0 e e before (now (part .entry)) r (now (part .exit)) ⌝ }
 {
-    let mut verdict = before;
+    let mut judged = before;
     let mut s = s0;
     while s < e {
         finish_row(part, width, s, s0, s);
-        let next = finish_diagonal(part, c, width, s0, s, verdict);
-        verdict = next;
+        let next = finish_diagonal(part, c, width, s0, s, judged);
+        judged = next;
         s += 1;
     }
-    verdict
+    judged
 }
 
 // The rows below columns s0 .. e − 1, eight at a time and then the rest.
@@ -166,8 +162,8 @@ fn factor_panel(
     rows: usize,
     s0: usize,
     g: usize,
-    before: Verdict,
-) -> Verdict
+    before: Judgement,
+) -> Judgement
     requires { ⌜ (s0 + g ≤ width) × (width ≤ rows) × (c + rows ≤ maxOrder) × (rowStart width rows ≤ length (now part)) ⌝ }
     requires { ⌜ g ≤ 16 ⌝ }
     ensures { λ r. ⌜ ColumnsFinished c width rows s0 (s0 + g) before (now (part .entry)) r (now (part .exit)) ⌝ }
@@ -178,31 +174,32 @@ fn factor_panel(
         rows,
     };
     update_panel(part, spare, column, s0, g);
-    let verdict = finish_triangle(part, c, width, s0, s0 + g, before);
+    let judged = finish_triangle(part, c, width, s0, s0 + g, before);
     finish_below(part, width, rows, s0, s0 + g);
-    verdict
+    judged
 }
 
-// All columns, panel by panel, and the first refusal by a pivot.
+// All columns, panel by panel, judged by their pivots.
 fn factor_panels(
     part: &mut [f64],
     spare: &mut [f64],
     c: usize,
     width: usize,
     rows: usize,
-) -> Verdict
+    before: Judgement,
+) -> Judgement
     requires { ⌜ (width ≤ rows) × (c + rows ≤ maxOrder) × (rowStart width rows ≤ length (now part)) ⌝ }
-    ensures { λ r. ⌜ ColumnsFinished c width rows 0 width success (now (part .entry)) r (now (part .exit)) ⌝ }
+    ensures { λ r. ⌜ ColumnsFinished c width rows 0 width before (now (part .entry)) r (now (part .exit)) ⌝ }
 {
-    let mut verdict = calls::refusal(0, 0);
+    let mut judged = before;
     let mut s0 = 0;
     while s0 < width {
         let g = least(16, width - s0);
-        let next = factor_panel(part, spare, c, width, rows, s0, g, verdict);
-        verdict = next;
+        let next = factor_panel(part, spare, c, width, rows, s0, g, judged);
+        judged = next;
         s0 += g;
     }
-    verdict
+    judged
 }
 
 // Whether the entries below the diagonal of column s are finite.
@@ -239,8 +236,8 @@ fn lowest_overflow(part: &[f64], width: usize, rows: usize) -> usize
     width
 }
 
-// The verdict of a finished block column: a column with an overflow decides where no pivot refuses it or a column before it.
-fn judge_block(part: &[f64], c: usize, width: usize, rows: usize, first: Verdict) -> Verdict
+// A finished block column judged: a column with an overflow decides where no pivot refuses it or a column before it.
+fn judge_block(part: &[f64], c: usize, width: usize, rows: usize, first: Judgement) -> Judgement
     requires { ⌜ (width ≤ rows) × (c + rows ≤ maxOrder) × (rowStart width rows ≤ length (now part)) ⌝ }
     ensures { λ r. ⌜ BlockVerdict c width rows first (now (part .entry)) r ⌝ }
 {
@@ -248,79 +245,107 @@ fn judge_block(part: &[f64], c: usize, width: usize, rows: usize, first: Verdict
     if s == width {
         return first;
     }
-    if !calls::accepted(first) {
-        if first.place <= c + s {
+    let verdict = first.verdict;
+    if !calls::accepted(verdict) {
+        if verdict.place <= c + s {
             return first;
         }
     }
     let p = Shape::place_in_block(width, s, 0) + s;
-    checks::judge_column(c + s, Pivot::Root(part[p]), false)
+    checks::judge_column(c + s, Pivot::Root(part[p], first.exact), false)
 }
 
-// The block column that begins with column c, from the memory's start on, less the products of the columns before c already: its values, and then its verdict.
-fn factor_block(part: &mut [f64], spare: &mut [f64], c: usize, width: usize, rows: usize) -> Verdict
+// The block column that begins with column c, from the memory's start on, less the products of the columns before c already: its values, and then what the
+// columns up to its end are judged to.
+fn factor_block(
+    part: &mut [f64],
+    spare: &mut [f64],
+    c: usize,
+    width: usize,
+    rows: usize,
+    before: Judgement,
+) -> Judgement
     requires { ⌜ (width ≤ rows) × (c + rows ≤ maxOrder) × (rowStart width rows ≤ length (now part)) ⌝ }
-    ensures { λ r. ⌜ BlockColumnFactored c width rows (now (part .entry)) r (now (part .exit)) ⌝ }
+    ensures { λ r. ⌜ BlockColumnFactored c width rows before (now (part .entry)) r (now (part .exit)) ⌝ }
 {
-    let first = factor_panels(part, spare, c, width, rows);
+    let first = factor_panels(part, spare, c, width, rows, before);
     judge_block(part, c, width, rows, first)
 }
 
 // The block column that begins with column c; it is worked on as a part of the memory from its start on.
-fn factor_part(m: &mut [f64], spare: &mut [f64], shape: Shape, c: usize) -> Verdict
+fn factor_part(
+    m: &mut [f64],
+    spare: &mut [f64],
+    shape: Shape,
+    c: usize,
+    before: Judgement,
+) -> Judgement
     requires { ⌜ BlockAt (shape .order) (shape .block) c (length (now m)) ⌝ }
     requires { ⌜ (0 < c → 2 * shape .block ≤ length (now spare)) ⌝ }
-    ensures { λ r. ⌜ BlockFactored (shape .order) (shape .block) c (now (m .entry)) r (now (m .exit)) ⌝ }
+    ensures { λ r. ⌜ BlockFactored (shape .order) (shape .block) c before (now (m .entry)) r (now (m .exit)) ⌝ }
 {
     update_by_runs(m, spare, shape, c);
     let start = shape.block_start(c);
     let width = shape.block_width(c);
-    factor_block(&mut m[start..], spare, c, width, shape.order - c)
+    factor_block(&mut m[start..], spare, c, width, shape.order - c, before)
 }
 
 // The entry values are kept in the work memory, whose rest is spare, and put back where a column is refused.
-fn factor_step(m: &mut [f64], work: &mut [f64], shape: Shape, c: usize) -> Verdict
+fn factor_step(
+    m: &mut [f64],
+    work: &mut [f64],
+    shape: Shape,
+    c: usize,
+    before: Judgement,
+) -> Judgement
     requires { ⌜ BlockAt (shape .order) (shape .block) c (length (now m)) ⌝ }
     requires { ⌜ length (now work) ≡ blockWork (shape .order) (shape .block) ⌝ }
-    ensures { λ r. ⌜ BlockDone (shape .order) (shape .block) c (now (m .entry)) r (now (m .exit)) ⌝ }
+    ensures { λ r. ⌜ BlockDone (shape .order) (shape .block) c before (now (m .entry)) r (now (m .exit)) ⌝ }
 {
     let start = shape.block_start(c);
     let size = Shape::place_in_block(shape.block_width(c), shape.order - c, 0);
     copy_part(m, start, work, 0, size);
-    let result = factor_part(m, &mut work[size..], shape, c);
-    if !calls::accepted(result) {
+    let judged = factor_part(m, &mut work[size..], shape, c, before);
+    let verdict = judged.verdict;
+    if !calls::accepted(verdict) {
         copy_part(work, 0, m, start, size);
     }
-    result
+    judged
 }
 
 // All block columns, up to the one with the first refused column.
-fn factor_blocks(m: &mut [f64], work: &mut [f64], shape: Shape) -> Verdict
+fn factor_blocks(m: &mut [f64], work: &mut [f64], shape: Shape) -> Judgement
     requires { ⌜ Sized (shape .order) (shape .block) (length (now m)) (length (now work)) ⌝ }
     ensures { λ r. ⌜ BlocksDone (shape .order) (shape .block) (now (m .entry)) r (now (m .exit)) ⌝ }
 {
     let order = shape.order;
+    let mut judged = Judgement {
+        verdict: calls::refusal(0, 0),
+        exact: true,
+    };
     let mut c = 0;
     while c < order {
-        let result = factor_step(m, work, shape, c);
-        if !calls::accepted(result) {
-            return result;
+        let step = factor_step(m, work, shape, c, judged);
+        let verdict = step.verdict;
+        if !calls::accepted(verdict) {
+            return step;
         }
+        judged = step;
         let next = c + shape.block_width(c);
         c = next;
     }
-    calls::refusal(0, 0)
+    judged
 }
 
 // All block columns, with the work memory cleared afterwards.
-fn factor_blocks_cleared(m: &mut [f64], work: &mut [f64], shape: Shape) -> Verdict
+fn factor_blocks_cleared(m: &mut [f64], work: &mut [f64], shape: Shape) -> Judgement
     requires { ⌜ Sized (shape .order) (shape .block) (length (now m)) (length (now work)) ⌝ }
     ensures { λ r. ⌜ BlocksDone (shape .order) (shape .block) (now (m .entry)) r (now (m .exit)) ⌝ }
     ensures { λ _. ⌜ now (work .exit) ≡ replicate (blockWork (shape .order) (shape .block)) zero64 ⌝ }
 {
-    let result = factor_blocks(m, work, shape);
+    let judged = factor_blocks(m, work, shape);
     checks::clear(work);
-    result
+    judged
 }
 
 // The blocked factor of memory in blocked order. With one column to a block that is packed order, and the plain factor does it.
@@ -337,5 +362,5 @@ pub fn factor(shape: Shape, matrix: &mut [f64], work: &mut [f64]) -> CallResult
         return calls::result(checks);
     }
     let needed = shape.block_work();
-    calls::result(factor_blocks_cleared(matrix, &mut work[..needed], shape))
+    calls::judged_result(factor_blocks_cleared(matrix, &mut work[..needed], shape))
 }

@@ -15,18 +15,19 @@ use Rattle.shape.specs.Bounds.{maxOrder, maxBlock, maxRhs}
 use Rattle.shape.specs.Places.{triangle, blockWork}
 use Rattle.shape.specs.Layouts.{Entry, Bijection}
 use Rattle.calls.specs.declared.Verdict.{Verdict}
+use Rattle.calls.specs.declared.CallResult.{CallResult}
 use Rattle.calls.specs.Sequences.{all}
 use Rattle.calls.specs.declared.Layout.{Layout}
 use Rattle.calls.specs.declared.Layout.the-variants.{Packed, Blocked}
 use Rattle.calls.specs.Triangles.{Triangle, entry, placeOf, height, load, store}
 use Rattle.calls.specs.declared.Call.the-variants.{Rearranger, Factor, Solver}
 use Rattle.calls.specs.Refusals.{neededWork, success, accepted, refusal, refuseIf, firstRefusal, lowestRefusal, columnVerdict, rule5, rule6, rule7, rule8, rule9}
-use Rattle.calls.specs.Calls.{Solved, resultOf, succeeded, clear, rearrange, moved, columnsVerdict, finished, factored, factorize, solverChecks, rhsVerdict, solutions, solved, solve}
+use Rattle.calls.specs.Calls.{Solved, resultOf, judgedResult, succeeded, clear, rearrange, moved, columnsVerdict, columnsJudged, finished, factored, factorize, solverChecks, rhsVerdict, solutions, solved, solve}
 use Rattle.calls.specs.Pipelines.{Ended, plainPipeline, blockedPipeline, Start, PipelinesAgree}
 use Rattle.calls.proofs.Sequences.{all-at, all-of}
 use Rattle.calls.proofs.Triangles.{Shaped, shaped-load, entry-load, length-store, store-same, load-store, store-whole}
 use Rattle.calls.proofs.Refusals.{first-passes, lowest-same, lowest-accepted, finite-rule}
-use Rattle.calls.proofs.Columns.{columns, shaped-columns, FiniteMatrix, columns-finite}
+use Rattle.calls.proofs.Columns.{columns, shaped-columns, FiniteMatrix, finite-matrix, columns-finite}
 use Rattle.calls.proofs.Checks.{Sizes, sizes-pass, rearranger-checks, factor-checks, rule5-passes, rule6-passes, length-clear}
 use Rattle.calls.proofs.Rearranging.{layout-bijection, length-moved, load-moved}
 
@@ -128,7 +129,7 @@ module _ (n b m : ℕ) (order : n ≤ maxOrder) (low : 1 ≤ b) (high : b ≤ ma
       neededWork (Factor layout) n b ≤ length work →
       factorize layout n b memory work
       ≡ record {
-        result = resultOf (columnsVerdict n a);
+        result = judgedResult (columnsJudged n a);
         matrix = store place (columns n a (finished layout n b (columnsVerdict n a))) memory;
         work = clear (neededWork (Factor layout) n b) work;
       }
@@ -152,12 +153,15 @@ rearrange-free from to n b memory work s = rw (rearranger-checks n b (length mem
 -- ---- both pipelines
 
 module _ (n b m : ℕ) (matrix rhs plainWork blockedWork : List Float) (v : T (all (fits binary64) matrix)) (s : Start n b m matrix rhs plainWork blockedWork) where
-  -- the matrix, its verdict, and its factor where that is accepted
+  -- the matrix, its verdict, what its factors return, and its factor where that is accepted
   abbrev a : Triangle
   a = load (placeOf Packed n b) (height n) n matrix
 
   abbrev verdict : Verdict
   verdict = columnsVerdict n a
+
+  abbrev answer : CallResult
+  answer = judgedResult (columnsJudged n a)
 
   abbrev factorOf : Triangle
   factorOf = columns n a n
@@ -183,13 +187,7 @@ module _ (n b m : ℕ) (matrix rhs plainWork blockedWork : List Float) (v : T (a
   moved-matrix = load-moved Packed Blocked n b (s .blockLow) matrix (s .matrixLength)
 
   matrix-given : FiniteMatrix n a
-  matrix-given = record { values = λ i j e. at (fits binary64) v i j e; finites = λ i j e. at finite (s .matrixFinite) i j e }
-    where
-      at : (test : Float → Bool) → T (all test matrix) → (i j : ℕ) → Entry n i j → T (test (entry a i j))
-      at test t i j e =
-          let bij : Bijection (placeOf Packed n b) n = layout-bijection Packed n b (s .blockLow) in
-          subst (λ x. T (test x)) (sym (entry-load (placeOf Packed n b) n matrix i j e))
-          (all-at test matrix t (placeOf Packed n b i j) nan (omega (arith, bij .below i j e, s .matrixLength)))
+  matrix-given = finite-matrix (placeOf Packed n b) n (layout-bijection Packed n b (s .blockLow)) matrix (s .matrixLength) v (s .matrixFinite)
 
   moved-finite : T (all finite inBlocks)
   unfolding moved
@@ -205,7 +203,7 @@ module _ (n b m : ℕ) (matrix rhs plainWork blockedWork : List Float) (v : T (a
 
   plain-factor :
       factorize Packed n b matrix plainWork
-      ≡ record { result = resultOf verdict; matrix = store (placeOf Packed n b) (columns n a (finished Packed n b verdict)) matrix; work = clear n plainWork }
+      ≡ record { result = answer; matrix = store (placeOf Packed n b) (columns n a (finished Packed n b verdict)) matrix; work = clear n plainWork }
   plain-factor =
       factor-free n b m (s .order) (s .blockLow) (s .blockHigh) (s .rhsCount) Packed a matrix plainWork refl (s .matrixLength) (s .matrixFinite)
       (s .plainWorkLength)
@@ -213,7 +211,7 @@ module _ (n b m : ℕ) (matrix rhs plainWork blockedWork : List Float) (v : T (a
   blocked-factor :
       factorize Blocked n b inBlocks clearedWork
       ≡ record {
-        result = resultOf verdict;
+        result = answer;
         matrix = store (placeOf Blocked n b) (columns n a (finished Blocked n b verdict)) inBlocks;
         work = clear (blockWork n b) clearedWork;
       }
@@ -228,13 +226,13 @@ module _ (n b m : ℕ) (matrix rhs plainWork blockedWork : List Float) (v : T (a
       rearrange-free Packed Blocked n b matrix blockedWork
       (record { order = s .order; blockLow = s .blockLow; blockHigh = s .blockHigh; matrix = s .matrixLength; work = s .blockedWorkLength })
 
-  plain-verdict : plainPipeline n b m matrix rhs plainWork .factorResult ≡ resultOf verdict
+  plain-result : plainPipeline n b m matrix rhs plainWork .factorResult ≡ answer
   unfolding plainPipeline
-  plain-verdict = rw plain-factor (cond-both (λ (e : Ended). e .factorResult ≡ resultOf verdict) (accepted verdict) _ _ refl refl)
+  plain-result = rw plain-factor (cond-both (λ (e : Ended). e .factorResult ≡ answer) (accepted verdict) _ _ refl refl)
 
-  blocked-verdict : blockedPipeline n b m matrix rhs blockedWork .factorResult ≡ resultOf verdict
+  blocked-result : blockedPipeline n b m matrix rhs blockedWork .factorResult ≡ answer
   unfolding blockedPipeline
-  blocked-verdict = rw (there, blocked-factor) (cond-both (λ (e : Ended). e .factorResult ≡ resultOf verdict) (accepted verdict) _ _ refl refl)
+  blocked-result = rw (there, blocked-factor) (cond-both (λ (e : Ended). e .factorResult ≡ answer) (accepted verdict) _ _ refl refl)
 
   -- ---- an accepted factor
 
@@ -251,7 +249,7 @@ module _ (n b m : ℕ) (matrix rhs plainWork blockedWork : List Float) (v : T (a
     plain-ended :
         plainPipeline n b m matrix rhs plainWork
         ≡ (let d = freeSolved n m factorOf rhs (clear n plainWork) in
-        record { factorResult = resultOf verdict; solverResult = d .result; matrix = store (placeOf Packed n b) factorOf matrix; rhs = d .rhs; work = d .work })
+        record { factorResult = answer; solverResult = d .result; matrix = store (placeOf Packed n b) factorOf matrix; rhs = d .rhs; work = d .work })
     unfolding plainPipeline
     plain-ended =
         rw (
@@ -298,7 +296,7 @@ module _ (n b m : ℕ) (matrix rhs plainWork blockedWork : List Float) (v : T (a
     blocked-ended :
         blockedPipeline n b m matrix rhs blockedWork
         ≡ record {
-          factorResult = resultOf verdict;
+          factorResult = answer;
           solverResult = solvedBlocks .result;
           matrix = store (placeOf Packed n b) factorOf matrix;
           rhs = solvedBlocks .rhs;
@@ -322,7 +320,7 @@ module _ (n b m : ℕ) (matrix rhs plainWork blockedWork : List Float) (v : T (a
 pub pipelines-agree : PipelinesAgree
 pipelines-agree n b m matrix rhs pw bw v s =
     record {
-      factors = plain-verdict n b m matrix rhs pw bw v s ∙ sym (blocked-verdict n b m matrix rhs pw bw v s);
+      factors = plain-result n b m matrix rhs pw bw v s ∙ sym (blocked-result n b m matrix rhs pw bw v s);
       solvers = λ t.
           ap (λ (e : Ended). e .solverResult) (plain t) ∙ free-same n m l rhs (clear n pw) work .0 ∙ sym (ap (λ (e : Ended). e .solverResult) (block t));
       rhs = λ t. ap (λ (e : Ended). e .rhs) (plain t) ∙ free-same n m l rhs (clear n pw) work .1 ∙ sym (ap (λ (e : Ended). e .rhs) (block t));
@@ -336,13 +334,13 @@ pipelines-agree n b m matrix rhs pw bw v s =
     work = clear (blockWork n b) (clear (blockWork n b) bw)
 
     ok : T (succeeded (plainPipeline n b m matrix rhs pw .factorResult)) → T (accepted (verdict n b m matrix rhs pw bw v s))
-    ok t = subst (λ r. T (succeeded r)) (plain-verdict n b m matrix rhs pw bw v s) t
+    ok t = subst (λ r. T (succeeded r)) (plain-result n b m matrix rhs pw bw v s) t
 
     plain :
         T (succeeded (plainPipeline n b m matrix rhs pw .factorResult)) →
         plainPipeline n b m matrix rhs pw
         ≡ (let d = freeSolved n m l rhs (clear n pw) in
-        record { factorResult = resultOf (verdict n b m matrix rhs pw bw v s); solverResult = d .result; matrix = store (placeOf Packed n b) l matrix; rhs = d .rhs; work = d .work })
+        record { factorResult = answer n b m matrix rhs pw bw v s; solverResult = d .result; matrix = store (placeOf Packed n b) l matrix; rhs = d .rhs; work = d .work })
     plain t = plain-ended n b m matrix rhs pw bw v s (ok t)
 
     block :
@@ -350,7 +348,7 @@ pipelines-agree n b m matrix rhs pw bw v s =
         blockedPipeline n b m matrix rhs bw
         ≡ (let d = freeSolved n m l rhs work in
         record {
-          factorResult = resultOf (verdict n b m matrix rhs pw bw v s);
+          factorResult = answer n b m matrix rhs pw bw v s;
           solverResult = d .result;
           matrix = store (placeOf Packed n b) l matrix;
           rhs = d .rhs;

@@ -5,24 +5,26 @@ use native.Mathlib.Nat.{sub-self}
 use native.Mathlib.Omega.{arith}
 use native.Mathlib.Decide.{decLt}
 use mathlib.Core.Path.{_≡_, refl, sym, ap, ap₂, _∙_, subst}
-use mathlib.Core.List.{[]}
+use mathlib.Core.Bool.{Bool}
+use mathlib.Core.List.{List, []}
 use lib.Dec.{T}
 use lib.ListN.{length, getD}
 use lib.Ieee.{Float, nan, binary64, fits, sub, mul}
 use lib.Ieee.Fits.{sub-fits}
 use Rattle.binary64.specs.Kinds.{finite, positive}
-use Rattle.binary64.specs.Root.{root}
+use Rattle.binary64.specs.Root.{root, exact}
 use Rattle.binary64.specs.Judged.{judged}
 use Rattle.binary64.specs.declared.Pivot.the-variants.{Root}
 use Rattle.binary64.proofs.Differences.{belowInfinity, difference-below, finite-below, below-finite}
 use Rattle.binary64.proofs.RootLaws.{root-finite}
-use Rattle.shape.specs.Layouts.{Entry}
+use Rattle.shape.specs.Places.{triangle}
+use Rattle.shape.specs.Layouts.{Entry, Bijection}
 use Rattle.calls.specs.Sequences.{all}
-use Rattle.calls.specs.Triangles.{Triangle, entry, height}
+use Rattle.calls.specs.Triangles.{Triangle, entry, height, load}
 use Rattle.calls.specs.Arithmetic.{minusProducts, pivot, quotient, below, factorColumn, cholesky}
 use Rattle.calls.specs.Refusals.{accepted, columnVerdict}
 use Rattle.calls.proofs.Sequences.{length-grow, getD-grow, length-tabulate, getD-tabulate, all-at}
-use Rattle.calls.proofs.Triangles.{Shaped}
+use Rattle.calls.proofs.Triangles.{Shaped, entry-load}
 use Rattle.calls.proofs.ColumnRules.{judged-positive, rules-accepted}
 
 module _ (n : ℕ) (a : Triangle) where
@@ -106,7 +108,7 @@ pub column-accepted :
     T (positive (pivot a l j)) × T (all finite (below heightOf a j l))
 unfolding columnVerdict
 column-accepted heightOf a l j t =
-    let both : (judged (pivot a l j) ≡ Root (root (pivot a l j))) × T (all finite (below heightOf a j l)) =
+    let both : (judged (pivot a l j) ≡ Root (root (pivot a l j)) (exact (pivot a l j))) × T (all finite (below heightOf a j l)) =
     rules-accepted j (pivot a l j) (all finite (below heightOf a j l)) t
     in
     (judged-positive (pivot a l j) (both .0), both .1)
@@ -115,6 +117,16 @@ column-accepted heightOf a l j t =
 pub record FiniteMatrix (n : ℕ) (a : Triangle) : Type 0 where
   pub values : (i j : ℕ) → Entry n i j → T (fits binary64 (entry a i j))
   pub finites : (i j : ℕ) → Entry n i j → T (finite (entry a i j))
+
+-- as those of a memory are
+pub finite-matrix :
+    (place : ℕ → ℕ → ℕ) (n : ℕ) → Bijection place n → (memory : List Float) → length memory ≡ triangle n → T (all (fits binary64) memory) →
+    T (all finite memory) → FiniteMatrix n (load place (height n) n memory)
+finite-matrix place n bij memory whole v f = record { values = λ i j e. at (fits binary64) v i j e; finites = λ i j e. at finite f i j e }
+  where
+    at : (test : Float → Bool) → T (all test memory) → (i j : ℕ) → Entry n i j → T (test (entry (load place (height n) n memory) i j))
+    at test t i j e =
+        subst (λ x. T (test x)) (sym (entry-load place n memory i j e)) (all-at test memory t (place i j) nan (omega (arith, bij .below i j e, whole)))
 
 module _ (n : ℕ) (a : Triangle) (given : FiniteMatrix n a) where
   abbrev FiniteColumns : ℕ → Type 0

@@ -34,7 +34,7 @@ module _ (n : ℕ) (a : Triangle) where
       (λ c. entry (columns n a k) i′ c) j t
       (λ c p. entry-kept n a j k i c p (omega arith)) (λ c p. entry-kept n a j k i′ c p (omega arith))
 
-  pivot-kept : (j k : ℕ) → j ≤ k → pivot a (columns n a j) j ≡ pivot a (columns n a k) j
+  pub pivot-kept : (j k : ℕ) → j ≤ k → pivot a (columns n a j) j ≡ pivot a (columns n a k) j
   unfolding pivot
   pivot-kept j k h = row-products j j j k (entry a j j) h
 

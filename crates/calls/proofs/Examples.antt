@@ -1,24 +1,24 @@
 -- Document 01's P examples as one table, each row under its own line of text, and rows that tell orders of rounding apart. One proposition covers
 -- them all. Values stand as bit patterns. Assumes nothing.
 use Prim.Native.Nat.{ℕ, _+_}
-use mathlib.Core.Bool.{Bool, true, false, _&&_}
+use mathlib.Core.Bool.{Bool, true, false, cond, not, _&&_}
 use mathlib.Core.List.{List, [], _∷_, _++_, map}
 use lib.Dec.{T, eqb}
 use lib.ListN.{replicate}
 use lib.Ieee.{Float, binary64, ofBits, toBits, mul, sub, div, lt}
 use Rattle.binary64.specs.Kinds.{kind, finite, positive}
-use Rattle.binary64.specs.Root.{root}
+use Rattle.binary64.specs.Root.{root, squares, exact}
 use Rattle.binary64.specs.Judged.{judged}
 use Rattle.shape.specs.Places.{triangle, packedPlace, blockedPlace, blockWork}
 use Rattle.calls.specs.declared.CallResult.{CallResult}
 use Rattle.calls.specs.declared.Verdict.{Verdict}
 use Rattle.calls.specs.declared.Layout.{Layout}
 use Rattle.calls.specs.declared.Layout.the-variants.{Packed, Blocked}
-use Rattle.calls.specs.Sequences.{iterate, grow, tabulate, all}
+use Rattle.calls.specs.Sequences.{iterate, grow, tabulate, all, every}
 use Rattle.calls.specs.Triangles.{entry, height, placeOf, load, storeColumn, store}
 use Rattle.calls.specs.Arithmetic.{minusProducts, pivot, quotient, below, factorColumn, cholesky, forward, backwardRows, backward}
-use Rattle.calls.specs.Refusals.{firstRefusal, lowestRefusal, rule1, rule2, rule3, rule4, rule5, rule6, finiteRule, rule9, rule11, columnRules, columnVerdict, rule12}
-use Rattle.calls.specs.Calls.{resultOf, clear, rearrangerChecks, moved, rearrange, factorChecks, columnsVerdict, factored, factorize, solverChecks, rhsPart, solution, rhsVerdict, solutions, solved, solve}
+use Rattle.calls.specs.Refusals.{firstRefusal, lowestRefusal, rule1, rule2, rule3, rule4, rule5, rule6, finiteRule, rule9, rule11, columnRules, columnVerdict, columnExact, rule12}
+use Rattle.calls.specs.Calls.{resultOf, clear, rearrangerChecks, moved, rearrange, factorChecks, columnsVerdict, columnsExact, factored, factorize, solverChecks, rhsPart, solution, rhsVerdict, solutions, solved, solve}
 use Rattle.calls.specs.Pipelines.{Ended, plainPipeline, blockedPipeline}
 
 -- ---- bit patterns
@@ -107,15 +107,21 @@ holds [] (p ∷ ps) = false
 holds (x ∷ xs) [] = false
 holds (x ∷ xs) (p ∷ ps) = eqb (toBits binary64 x) p && holds xs ps
 
--- code, place and value
+-- code, place, value, and whether every root was exact
 abbrev Answer : Type 0
-Answer = ℕ × ℕ × ℕ
+Answer = ℕ × ℕ × ℕ × Bool
+
+-- a factor with every root exact, and another factor or another call
+abbrev allExact : Answer
+allExact = (0, 0, 0, true)
 
 abbrev success : Answer
-success = (0, 0, 0)
+success = (0, 0, 0, false)
 
 gives : CallResult → Answer → Bool
-gives r answer = eqb (r .code) (answer .0) && eqb (r .place) (answer .1) && eqb (toBits binary64 (r .value)) (answer .2)
+gives r answer =
+    eqb (r .code) (answer .0) && eqb (r .place) (answer .1) && eqb (toBits binary64 (r .value)) (answer .2)
+    && cond (answer .3) (r .exact) (not (r .exact))
 
 decides : Verdict → Answer → Bool
 unfolding gives
@@ -186,8 +192,8 @@ job b needed =
     let rhs = memory (four ∷ seventeen ∷ nine ∷ []) in
     let factor = two ∷ one ∷ minusOne ∷ three ∷ two ∷ one ∷ [] in
     let x = one ∷ one ∷ one ∷ [] in
-    ends (plainPipeline 3 b 1 matrix rhs (used 3)) 3 success success factor x
-    && ends (blockedPipeline 3 b 1 matrix rhs (used needed)) needed success success factor x
+    ends (plainPipeline 3 b 1 matrix rhs (used 3)) 3 allExact success factor x
+    && ends (blockedPipeline 3 b 1 matrix rhs (used needed)) needed allExact success factor x
 
 -- n b i j; the place
 at : ℕ → ℕ → ℕ → ℕ → ℕ → Bool
@@ -204,51 +210,51 @@ rows =
     -- n 0, empty memory: success.
     gives (rearrange Packed Blocked 0 1 [] [] .result) success
     ∷ gives (rearrange Blocked Packed 0 1 [] [] .result) success
-    ∷ gives (factorize Packed 0 1 [] [] .result) success
-    ∷ gives (factorize Blocked 0 1 [] [] .result) success
+    ∷ gives (factorize Packed 0 1 [] [] .result) allExact
+    ∷ gives (factorize Blocked 0 1 [] [] .result) allExact
     ∷ gives (solve Packed 0 1 0 [] [] [] .result) success
     ∷ gives (solve Blocked 0 1 0 [] [] [] .result) success
     ∷ moves Packed Blocked 0 1 0 [] []
     ∷ moves Blocked Packed 0 1 0 [] []
-    ∷ factors Packed 0 1 0 [] success []
-    ∷ factors Blocked 0 1 0 [] success []
+    ∷ factors Packed 0 1 0 [] allExact []
+    ∷ factors Blocked 0 1 0 [] allExact []
     ∷ solves Packed 0 1 0 [] [] success []
     ∷ solves Packed 0 1 1000 [] [] success []
     ∷ solves Blocked 0 1 0 [] [] success []
     ∷ solves Blocked 0 1 1000 [] [] success []
     -- matrix 4 gives 2; +0 gives 10, place 0, value +0; −0 gives 10 with value −0.
-    ∷ factors Packed 1 1 1 (four ∷ []) success (two ∷ [])
-    ∷ factors Blocked 1 1 1 (four ∷ []) success (two ∷ [])
-    ∷ factors Packed 1 1 1 (0 ∷ []) (10, 0, 0) (0 ∷ [])
-    ∷ factors Blocked 1 1 1 (0 ∷ []) (10, 0, 0) (0 ∷ [])
-    ∷ factors Packed 1 1 1 (minusZero ∷ []) (10, 0, minusZero) (minusZero ∷ [])
-    ∷ factors Blocked 1 1 1 (minusZero ∷ []) (10, 0, minusZero) (minusZero ∷ [])
+    ∷ factors Packed 1 1 1 (four ∷ []) allExact (two ∷ [])
+    ∷ factors Blocked 1 1 1 (four ∷ []) allExact (two ∷ [])
+    ∷ factors Packed 1 1 1 (0 ∷ []) (10, 0, 0, false) (0 ∷ [])
+    ∷ factors Blocked 1 1 1 (0 ∷ []) (10, 0, 0, false) (0 ∷ [])
+    ∷ factors Packed 1 1 1 (minusZero ∷ []) (10, 0, minusZero, false) (minusZero ∷ [])
+    ∷ factors Blocked 1 1 1 (minusZero ∷ []) (10, 0, minusZero, false) (minusZero ∷ [])
     -- the job above, with b 1, 2, 3 and 200; its blocked factor for b 2 is 2, 1, 3, −1, 2, 1.
     ∷ job 1 3
     ∷ job 2 6
     ∷ job 3 9
     ∷ job 200 9
-    ∷ factors Packed 3 2 3 (four ∷ two ∷ minusTwo ∷ ten ∷ five ∷ six ∷ []) success (two ∷ one ∷ minusOne ∷ three ∷ two ∷ one ∷ [])
+    ∷ factors Packed 3 2 3 (four ∷ two ∷ minusTwo ∷ ten ∷ five ∷ six ∷ []) allExact (two ∷ one ∷ minusOne ∷ three ∷ two ∷ one ∷ [])
     ∷ moves Packed Blocked 3 2 6 (four ∷ two ∷ minusTwo ∷ ten ∷ five ∷ six ∷ []) (four ∷ two ∷ ten ∷ minusTwo ∷ five ∷ six ∷ [])
-    ∷ factors Blocked 3 2 6 (four ∷ two ∷ ten ∷ minusTwo ∷ five ∷ six ∷ []) success (two ∷ one ∷ three ∷ minusOne ∷ two ∷ one ∷ [])
+    ∷ factors Blocked 3 2 6 (four ∷ two ∷ ten ∷ minusTwo ∷ five ∷ six ∷ []) allExact (two ∷ one ∷ three ∷ minusOne ∷ two ∷ one ∷ [])
     ∷ solves Blocked 3 2 1 (two ∷ one ∷ three ∷ minusOne ∷ two ∷ one ∷ []) (four ∷ seventeen ∷ nine ∷ []) success (one ∷ one ∷ one ∷ [])
     ∷ moves Blocked Packed 3 2 6 (two ∷ one ∷ three ∷ minusOne ∷ two ∷ one ∷ []) (two ∷ one ∷ minusOne ∷ three ∷ two ∷ one ∷ [])
     -- packed 1, 1, 1 (n 2): 10, place 1, value +0.
-    ∷ factors Packed 2 1 2 (one ∷ one ∷ one ∷ []) (10, 1, 0) (one ∷ one ∷ one ∷ [])
-    ∷ factors Blocked 2 1 2 (one ∷ one ∷ one ∷ []) (10, 1, 0) (one ∷ one ∷ one ∷ [])
-    ∷ factors Blocked 2 2 4 (one ∷ one ∷ one ∷ []) (10, 1, 0) (one ∷ one ∷ one ∷ [])
+    ∷ factors Packed 2 1 2 (one ∷ one ∷ one ∷ []) (10, 1, 0, false) (one ∷ one ∷ one ∷ [])
+    ∷ factors Blocked 2 1 2 (one ∷ one ∷ one ∷ []) (10, 1, 0, false) (one ∷ one ∷ one ∷ [])
+    ∷ factors Blocked 2 2 4 (one ∷ one ∷ one ∷ []) (10, 1, 0, false) (one ∷ one ∷ one ∷ [])
     -- packed 2^−1000, 2^600, 1: 11, place 0.
-    ∷ factors Packed 2 1 2 (twoToMinus1000 ∷ twoTo600 ∷ one ∷ []) (11, 0, 0) (twoToMinus1000 ∷ twoTo600 ∷ one ∷ [])
-    ∷ factors Blocked 2 1 2 (twoToMinus1000 ∷ twoTo600 ∷ one ∷ []) (11, 0, 0) (twoToMinus1000 ∷ twoTo600 ∷ one ∷ [])
-    ∷ factors Blocked 2 2 4 (twoToMinus1000 ∷ twoTo600 ∷ one ∷ []) (11, 0, 0) (twoToMinus1000 ∷ twoTo600 ∷ one ∷ [])
+    ∷ factors Packed 2 1 2 (twoToMinus1000 ∷ twoTo600 ∷ one ∷ []) (11, 0, 0, false) (twoToMinus1000 ∷ twoTo600 ∷ one ∷ [])
+    ∷ factors Blocked 2 1 2 (twoToMinus1000 ∷ twoTo600 ∷ one ∷ []) (11, 0, 0, false) (twoToMinus1000 ∷ twoTo600 ∷ one ∷ [])
+    ∷ factors Blocked 2 2 4 (twoToMinus1000 ∷ twoTo600 ∷ one ∷ []) (11, 0, 0, false) (twoToMinus1000 ∷ twoTo600 ∷ one ∷ [])
     -- packed 2^−1000, 0, 2^600, −1, 0, 1, b 2: 11, place 0, though the diagonal block meets −1 first.
-    ∷ factors Packed 3 2 3 (twoToMinus1000 ∷ 0 ∷ twoTo600 ∷ minusOne ∷ 0 ∷ one ∷ []) (11, 0, 0)
+    ∷ factors Packed 3 2 3 (twoToMinus1000 ∷ 0 ∷ twoTo600 ∷ minusOne ∷ 0 ∷ one ∷ []) (11, 0, 0, false)
     (twoToMinus1000 ∷ 0 ∷ twoTo600 ∷ minusOne ∷ 0 ∷ one ∷ [])
-    ∷ factors Blocked 3 2 6 (twoToMinus1000 ∷ 0 ∷ minusOne ∷ twoTo600 ∷ 0 ∷ one ∷ []) (11, 0, 0)
+    ∷ factors Blocked 3 2 6 (twoToMinus1000 ∷ 0 ∷ minusOne ∷ twoTo600 ∷ 0 ∷ one ∷ []) (11, 0, 0, false)
     (twoToMinus1000 ∷ 0 ∷ minusOne ∷ twoTo600 ∷ 0 ∷ one ∷ [])
     -- factor 2^−500, right side 2^600: 12, place 0.
-    ∷ solves Packed 1 1 1 (twoToMinus500 ∷ []) (twoTo600 ∷ []) (12, 0, 0) (twoTo600 ∷ [])
-    ∷ solves Blocked 1 1 1 (twoToMinus500 ∷ []) (twoTo600 ∷ []) (12, 0, 0) (twoTo600 ∷ [])
+    ∷ solves Packed 1 1 1 (twoToMinus500 ∷ []) (twoTo600 ∷ []) (12, 0, 0, false) (twoTo600 ∷ [])
+    ∷ solves Blocked 1 1 1 (twoToMinus500 ∷ []) (twoTo600 ∷ []) (12, 0, 0, false) (twoTo600 ∷ [])
     -- n 10, b 3: (9,2) at 26, (3,3) at 27, (9,5) at 44, (9,9) at 54.
     ∷ at 10 3 9 2 26
     ∷ at 10 3 3 3 27
@@ -258,26 +264,37 @@ rows =
     ∷ hasRoot 0x0000_0000_0000_0001 0x1E60_0000_0000_0000
     ∷ hasRoot 0x3FEF_FFFF_FFFF_FFFF 0x3FEF_FFFF_FFFF_FFFF
     ∷ hasRoot 0x4000_0000_0000_0000 0x3FF6_A09E_667F_3BCD
+    -- ---- document 02, (e): 4 above is exact, and so are the job on both pipelines and n 0; 7, 10 and 11 are not.
+    -- The matrix 2 is not, the smallest subnormal is.
+    ∷ factors Packed 1 1 1 (two ∷ []) success (0x3FF6_A09E_667F_3BCD ∷ [])
+    ∷ factors Blocked 1 2 1 (two ∷ []) success (0x3FF6_A09E_667F_3BCD ∷ [])
+    ∷ factors Packed 1 1 1 (1 ∷ []) allExact (0x1E60_0000_0000_0000 ∷ [])
+    ∷ factors Blocked 1 2 1 (1 ∷ []) allExact (0x1E60_0000_0000_0000 ∷ [])
+    -- One root that is not exact among others that are: the first, and the last.
+    ∷ factors Packed 2 1 2 (two ∷ 0 ∷ four ∷ []) success (0x3FF6_A09E_667F_3BCD ∷ 0 ∷ two ∷ [])
+    ∷ factors Blocked 2 2 4 (two ∷ 0 ∷ four ∷ []) success (0x3FF6_A09E_667F_3BCD ∷ 0 ∷ two ∷ [])
+    ∷ factors Packed 2 1 2 (four ∷ 0 ∷ two ∷ []) success (two ∷ 0 ∷ 0x3FF6_A09E_667F_3BCD ∷ [])
+    ∷ factors Blocked 2 2 4 (four ∷ 0 ∷ two ∷ []) success (two ∷ 0 ∷ 0x3FF6_A09E_667F_3BCD ∷ [])
     -- ---- beyond document 01's list
     -- What stays after 10: the plain factor keeps its finished columns, the blocked one its finished block columns.
-    ∷ factors Packed 2 1 2 (four ∷ two ∷ one ∷ []) (10, 1, 0) (two ∷ one ∷ one ∷ [])
-    ∷ factors Blocked 2 1 2 (four ∷ two ∷ one ∷ []) (10, 1, 0) (two ∷ one ∷ one ∷ [])
-    ∷ factors Blocked 2 2 4 (four ∷ two ∷ one ∷ []) (10, 1, 0) (four ∷ two ∷ one ∷ [])
+    ∷ factors Packed 2 1 2 (four ∷ two ∷ one ∷ []) (10, 1, 0, false) (two ∷ one ∷ one ∷ [])
+    ∷ factors Blocked 2 1 2 (four ∷ two ∷ one ∷ []) (10, 1, 0, false) (two ∷ one ∷ one ∷ [])
+    ∷ factors Blocked 2 2 4 (four ∷ two ∷ one ∷ []) (10, 1, 0, false) (four ∷ two ∷ one ∷ [])
     -- The pivot 0 − 2^1200 is −infinity.
-    ∷ factors Packed 2 1 2 (one ∷ twoTo600 ∷ 0 ∷ []) (10, 1, minusInfinity) (one ∷ twoTo600 ∷ 0 ∷ [])
+    ∷ factors Packed 2 1 2 (one ∷ twoTo600 ∷ 0 ∷ []) (10, 1, minusInfinity, false) (one ∷ twoTo600 ∷ 0 ∷ [])
     -- After 12 an earlier right-hand side holds its solution, a later one its entry values.
-    ∷ solves Packed 1 1 3 (twoToMinus500 ∷ []) (twoToMinus100 ∷ twoTo600 ∷ twoToMinus100 ∷ []) (12, 1, 0)
+    ∷ solves Packed 1 1 3 (twoToMinus500 ∷ []) (twoToMinus100 ∷ twoTo600 ∷ twoToMinus100 ∷ []) (12, 1, 0, false)
     (twoTo900 ∷ twoTo600 ∷ twoToMinus100 ∷ [])
-    ∷ solves Blocked 1 1 3 (twoToMinus500 ∷ []) (twoToMinus100 ∷ twoTo600 ∷ twoToMinus100 ∷ []) (12, 1, 0)
+    ∷ solves Blocked 1 1 3 (twoToMinus500 ∷ []) (twoToMinus100 ∷ twoTo600 ∷ twoToMinus100 ∷ []) (12, 1, 0, false)
     (twoTo900 ∷ twoTo600 ∷ twoToMinus100 ∷ [])
     -- y is finite, x is not.
-    ∷ solves Packed 1 1 1 (twoToMinus500 ∷ []) (twoTo100 ∷ []) (12, 0, 0) (twoTo100 ∷ [])
+    ∷ solves Packed 1 1 1 (twoToMinus500 ∷ []) (twoTo100 ∷ []) (12, 0, 0, false) (twoTo100 ∷ [])
     -- The last pivot is 1 − 2^−54 − 2^−54: 1 one by one, ties to even; 1 − 2^−53 where the products are summed first.
-    ∷ factors Packed 3 1 3 (one ∷ 0 ∷ twoToMinus27 ∷ one ∷ twoToMinus27 ∷ one ∷ []) success (one ∷ 0 ∷ twoToMinus27 ∷ one ∷ twoToMinus27 ∷ one ∷ [])
+    ∷ factors Packed 3 1 3 (one ∷ 0 ∷ twoToMinus27 ∷ one ∷ twoToMinus27 ∷ one ∷ []) allExact (one ∷ 0 ∷ twoToMinus27 ∷ one ∷ twoToMinus27 ∷ one ∷ [])
     -- The last pivot is 1 − 2^−54 − 1: +0 with rising k, −2^−54 with falling k.
-    ∷ factors Packed 3 1 3 (one ∷ 0 ∷ twoToMinus27 ∷ one ∷ one ∷ one ∷ []) (10, 2, 0) (one ∷ 0 ∷ twoToMinus27 ∷ one ∷ one ∷ one ∷ [])
+    ∷ factors Packed 3 1 3 (one ∷ 0 ∷ twoToMinus27 ∷ one ∷ one ∷ one ∷ []) (10, 2, 0, false) (one ∷ 0 ∷ twoToMinus27 ∷ one ∷ one ∷ one ∷ [])
     -- The last pivot is 1 + 2^−51 − (1 + 2^−52)²: +0 where the product is rounded first, −2^−104 where it is fused with the difference.
-    ∷ factors Packed 2 1 2 (one ∷ 0x3FF0_0000_0000_0001 ∷ 0x3FF0_0000_0000_0002 ∷ []) (10, 1, 0)
+    ∷ factors Packed 2 1 2 (one ∷ 0x3FF0_0000_0000_0001 ∷ 0x3FF0_0000_0000_0002 ∷ []) (10, 1, 0, false)
     (one ∷ 0x3FF0_0000_0000_0001 ∷ 0x3FF0_0000_0000_0002 ∷ [])
     -- 5 / 3 ends in B, 5 × (1 / 3) in A.
     ∷ factors Packed 2 1 2 (nine ∷ five ∷ four ∷ []) success (three ∷ 0x3FFA_AAAA_AAAA_AAAB ∷ 0x3FF1_B04C_62A8_F4CD ∷ [])
@@ -289,57 +306,57 @@ rows =
     -- The first x is 1 − 2^−54 − 1: +0 with falling k, −2^−54 with rising k.
     ∷ solves Packed 3 1 1 (one ∷ one ∷ twoToMinus54 ∷ one ∷ 0 ∷ one ∷ []) (one ∷ two ∷ one ∷ []) success (0 ∷ one ∷ one ∷ [])
     -- ---- codes 1 to 9, each where the rules before it pass
-    ∷ decides (rearrangerChecks 4001 201 0 0) (1, 0, 0)
-    ∷ decides (rearrangerChecks 4000 201 0 0) (2, 0, 0)
-    ∷ decides (rearrangerChecks 4000 0 0 0) (2, 0, 0)
-    ∷ decides (rearrangerChecks 4000 200 0 0) (3, 0, 0)
-    ∷ decides (rearrangerChecks 4000 200 8002000 799999) (4, 0, 0)
+    ∷ decides (rearrangerChecks 4001 201 0 0) (1, 0, 0, false)
+    ∷ decides (rearrangerChecks 4000 201 0 0) (2, 0, 0, false)
+    ∷ decides (rearrangerChecks 4000 0 0 0) (2, 0, 0, false)
+    ∷ decides (rearrangerChecks 4000 200 0 0) (3, 0, 0, false)
+    ∷ decides (rearrangerChecks 4000 200 8002000 799999) (4, 0, 0, false)
     ∷ decides (rearrangerChecks 4000 200 8002000 800000) success
-    ∷ decides (factorChecks Packed 1 0 (memory (infinity ∷ [])) 0) (4, 0, 0)
-    ∷ decides (factorChecks Packed 1 0 (memory (infinity ∷ [])) 1) (7, 0, 0)
-    ∷ decides (solverChecks Packed 1 0 1001 (memory (two ∷ [])) [] 1) (5, 0, 0)
-    ∷ decides (solverChecks Packed 1 0 1000 (memory (two ∷ [])) [] 1) (6, 0, 0)
-    ∷ decides (solverChecks Blocked 3 2 0 (memory (one ∷ one ∷ one ∷ infinity ∷ one ∷ one ∷ [])) [] 3) (7, 3, 0)
-    ∷ decides (solverChecks Blocked 1 2 2 (memory (0 ∷ [])) (memory (one ∷ infinity ∷ [])) 1) (8, 1, 0)
-    ∷ decides (solverChecks Blocked 3 2 0 (memory (one ∷ 0 ∷ one ∷ 0 ∷ 0 ∷ 0 ∷ [])) [] 3) (9, 2, 0)
+    ∷ decides (factorChecks Packed 1 0 (memory (infinity ∷ [])) 0) (4, 0, 0, false)
+    ∷ decides (factorChecks Packed 1 0 (memory (infinity ∷ [])) 1) (7, 0, 0, false)
+    ∷ decides (solverChecks Packed 1 0 1001 (memory (two ∷ [])) [] 1) (5, 0, 0, false)
+    ∷ decides (solverChecks Packed 1 0 1000 (memory (two ∷ [])) [] 1) (6, 0, 0, false)
+    ∷ decides (solverChecks Blocked 3 2 0 (memory (one ∷ one ∷ one ∷ infinity ∷ one ∷ one ∷ [])) [] 3) (7, 3, 0, false)
+    ∷ decides (solverChecks Blocked 1 2 2 (memory (0 ∷ [])) (memory (one ∷ infinity ∷ [])) 1) (8, 1, 0, false)
+    ∷ decides (solverChecks Blocked 3 2 0 (memory (one ∷ 0 ∷ one ∷ 0 ∷ 0 ∷ 0 ∷ [])) [] 3) (9, 2, 0, false)
     -- Two rules that hold together, or one at two places: the first decides.
-    ∷ decides (factorChecks Blocked 4001 0 [] 0) (1, 0, 0)
-    ∷ decides (factorChecks Blocked 1 0 [] 1) (2, 0, 0)
-    ∷ decides (factorChecks Packed 1 1 [] 0) (3, 0, 0)
-    ∷ decides (solverChecks Blocked 4001 0 0 [] [] 0) (1, 0, 0)
-    ∷ decides (solverChecks Blocked 1 0 0 [] [] 0) (2, 0, 0)
-    ∷ decides (solverChecks Packed 1 1 0 [] [] 0) (3, 0, 0)
-    ∷ decides (solverChecks Packed 1 1 1001 (memory (two ∷ [])) [] 0) (4, 0, 0)
-    ∷ decides (solverChecks Packed 1 1 1 (memory (infinity ∷ [])) [] 1) (6, 0, 0)
-    ∷ decides (solverChecks Packed 1 1 1 (memory (infinity ∷ [])) (memory (infinity ∷ [])) 1) (7, 0, 0)
-    ∷ decides (solverChecks Packed 3 1 0 (memory (one ∷ one ∷ one ∷ 0 ∷ one ∷ 0 ∷ [])) [] 3) (9, 1, 0)
+    ∷ decides (factorChecks Blocked 4001 0 [] 0) (1, 0, 0, false)
+    ∷ decides (factorChecks Blocked 1 0 [] 1) (2, 0, 0, false)
+    ∷ decides (factorChecks Packed 1 1 [] 0) (3, 0, 0, false)
+    ∷ decides (solverChecks Blocked 4001 0 0 [] [] 0) (1, 0, 0, false)
+    ∷ decides (solverChecks Blocked 1 0 0 [] [] 0) (2, 0, 0, false)
+    ∷ decides (solverChecks Packed 1 1 0 [] [] 0) (3, 0, 0, false)
+    ∷ decides (solverChecks Packed 1 1 1001 (memory (two ∷ [])) [] 0) (4, 0, 0, false)
+    ∷ decides (solverChecks Packed 1 1 1 (memory (infinity ∷ [])) [] 1) (6, 0, 0, false)
+    ∷ decides (solverChecks Packed 1 1 1 (memory (infinity ∷ [])) (memory (infinity ∷ [])) 1) (7, 0, 0, false)
+    ∷ decides (solverChecks Packed 3 1 0 (memory (one ∷ one ∷ one ∷ 0 ∷ one ∷ 0 ∷ [])) [] 3) (9, 1, 0, false)
     -- The whole calls: all memory stays as it was. Under 3 and 6 it is one value too long, under 4 one too short.
-    ∷ moveRefused Packed Blocked 3 0 (four ∷ two ∷ minusTwo ∷ ten ∷ five ∷ six ∷ []) (replicate 9 infinity) (2, 0, 0)
-    ∷ moveRefused Blocked Packed 3 0 (four ∷ two ∷ minusTwo ∷ ten ∷ five ∷ six ∷ []) (replicate 9 infinity) (2, 0, 0)
-    ∷ moveRefused Packed Blocked 1 1 (four ∷ two ∷ []) (infinity ∷ []) (3, 0, 0)
-    ∷ moveRefused Packed Blocked 3 2 (four ∷ two ∷ minusTwo ∷ ten ∷ five ∷ six ∷ []) (replicate 5 infinity) (4, 0, 0)
-    ∷ moveRefused Blocked Packed 3 2 (four ∷ two ∷ minusTwo ∷ ten ∷ five ∷ six ∷ []) (replicate 5 infinity) (4, 0, 0)
-    ∷ factorRefused Blocked 1 0 (four ∷ []) (infinity ∷ []) (2, 0, 0)
-    ∷ factorRefused Packed 1 1 (four ∷ two ∷ []) (infinity ∷ []) (3, 0, 0)
-    ∷ factorRefused Packed 2 1 (four ∷ two ∷ ten ∷ []) (infinity ∷ []) (4, 0, 0)
-    ∷ factorRefused Blocked 2 2 (four ∷ two ∷ ten ∷ []) (replicate 3 infinity) (4, 0, 0)
-    ∷ factorRefused Packed 2 1 (four ∷ two ∷ infinity ∷ []) (replicate 2 infinity) (7, 2, 0)
-    ∷ factorRefused Blocked 2 1 (four ∷ two ∷ infinity ∷ []) (replicate 2 infinity) (7, 2, 0)
-    ∷ solveRefused Blocked 1 0 1 (two ∷ []) (four ∷ []) (infinity ∷ []) (2, 0, 0)
-    ∷ solveRefused Packed 1 1 1 (two ∷ two ∷ []) (four ∷ []) (infinity ∷ []) (3, 0, 0)
-    ∷ solveRefused Packed 2 1 1 (two ∷ one ∷ two ∷ []) (four ∷ six ∷ []) (infinity ∷ []) (4, 0, 0)
-    ∷ solveRefused Blocked 2 2 1 (two ∷ one ∷ two ∷ []) (four ∷ six ∷ []) (infinity ∷ []) (4, 0, 0)
-    ∷ solveRefused Packed 1 1 1001 (two ∷ []) (four ∷ []) (infinity ∷ []) (5, 0, 0)
-    ∷ solveRefused Packed 1 1 1 (two ∷ []) (four ∷ six ∷ []) (infinity ∷ []) (6, 0, 0)
-    ∷ solveRefused Blocked 1 1 1 (two ∷ []) (four ∷ six ∷ []) (infinity ∷ []) (6, 0, 0)
-    ∷ solveRefused Packed 2 1 1 (two ∷ one ∷ infinity ∷ []) (four ∷ six ∷ []) (replicate 2 infinity) (7, 2, 0)
-    ∷ solveRefused Packed 1 1 2 (two ∷ []) (four ∷ infinity ∷ []) (infinity ∷ []) (8, 1, 0)
-    ∷ solveRefused Blocked 2 1 1 (two ∷ one ∷ 0 ∷ []) (four ∷ six ∷ []) (replicate 2 infinity) (9, 1, 0)
-    ∷ moveRefused Packed Blocked 4001 2 (four ∷ []) (infinity ∷ []) (1, 0, 0)
-    ∷ factorRefused Packed 4001 1 (four ∷ []) (infinity ∷ []) (1, 0, 0)
-    ∷ solveRefused Packed 4001 1 1 (two ∷ []) (four ∷ []) (infinity ∷ []) (1, 0, 0)
+    ∷ moveRefused Packed Blocked 3 0 (four ∷ two ∷ minusTwo ∷ ten ∷ five ∷ six ∷ []) (replicate 9 infinity) (2, 0, 0, false)
+    ∷ moveRefused Blocked Packed 3 0 (four ∷ two ∷ minusTwo ∷ ten ∷ five ∷ six ∷ []) (replicate 9 infinity) (2, 0, 0, false)
+    ∷ moveRefused Packed Blocked 1 1 (four ∷ two ∷ []) (infinity ∷ []) (3, 0, 0, false)
+    ∷ moveRefused Packed Blocked 3 2 (four ∷ two ∷ minusTwo ∷ ten ∷ five ∷ six ∷ []) (replicate 5 infinity) (4, 0, 0, false)
+    ∷ moveRefused Blocked Packed 3 2 (four ∷ two ∷ minusTwo ∷ ten ∷ five ∷ six ∷ []) (replicate 5 infinity) (4, 0, 0, false)
+    ∷ factorRefused Blocked 1 0 (four ∷ []) (infinity ∷ []) (2, 0, 0, false)
+    ∷ factorRefused Packed 1 1 (four ∷ two ∷ []) (infinity ∷ []) (3, 0, 0, false)
+    ∷ factorRefused Packed 2 1 (four ∷ two ∷ ten ∷ []) (infinity ∷ []) (4, 0, 0, false)
+    ∷ factorRefused Blocked 2 2 (four ∷ two ∷ ten ∷ []) (replicate 3 infinity) (4, 0, 0, false)
+    ∷ factorRefused Packed 2 1 (four ∷ two ∷ infinity ∷ []) (replicate 2 infinity) (7, 2, 0, false)
+    ∷ factorRefused Blocked 2 1 (four ∷ two ∷ infinity ∷ []) (replicate 2 infinity) (7, 2, 0, false)
+    ∷ solveRefused Blocked 1 0 1 (two ∷ []) (four ∷ []) (infinity ∷ []) (2, 0, 0, false)
+    ∷ solveRefused Packed 1 1 1 (two ∷ two ∷ []) (four ∷ []) (infinity ∷ []) (3, 0, 0, false)
+    ∷ solveRefused Packed 2 1 1 (two ∷ one ∷ two ∷ []) (four ∷ six ∷ []) (infinity ∷ []) (4, 0, 0, false)
+    ∷ solveRefused Blocked 2 2 1 (two ∷ one ∷ two ∷ []) (four ∷ six ∷ []) (infinity ∷ []) (4, 0, 0, false)
+    ∷ solveRefused Packed 1 1 1001 (two ∷ []) (four ∷ []) (infinity ∷ []) (5, 0, 0, false)
+    ∷ solveRefused Packed 1 1 1 (two ∷ []) (four ∷ six ∷ []) (infinity ∷ []) (6, 0, 0, false)
+    ∷ solveRefused Blocked 1 1 1 (two ∷ []) (four ∷ six ∷ []) (infinity ∷ []) (6, 0, 0, false)
+    ∷ solveRefused Packed 2 1 1 (two ∷ one ∷ infinity ∷ []) (four ∷ six ∷ []) (replicate 2 infinity) (7, 2, 0, false)
+    ∷ solveRefused Packed 1 1 2 (two ∷ []) (four ∷ infinity ∷ []) (infinity ∷ []) (8, 1, 0, false)
+    ∷ solveRefused Blocked 2 1 1 (two ∷ one ∷ 0 ∷ []) (four ∷ six ∷ []) (replicate 2 infinity) (9, 1, 0, false)
+    ∷ moveRefused Packed Blocked 4001 2 (four ∷ []) (infinity ∷ []) (1, 0, 0, false)
+    ∷ factorRefused Packed 4001 1 (four ∷ []) (infinity ∷ []) (1, 0, 0, false)
+    ∷ solveRefused Packed 4001 1 1 (two ∷ []) (four ∷ []) (infinity ∷ []) (1, 0, 0, false)
     -- The plain calls do not judge b.
-    ∷ factors Packed 1 0 1 (four ∷ []) success (two ∷ [])
+    ∷ factors Packed 1 0 1 (four ∷ []) allExact (two ∷ [])
     ∷ solves Packed 1 201 1 (two ∷ []) (four ∷ []) success (one ∷ [])
     -- ---- memory and order
     -- Two right-hand sides of two values each.
@@ -350,34 +367,34 @@ rows =
     ∷ moves Blocked Packed 5 2 10 (one ∷ two ∷ six ∷ three ∷ 0 ∷ infinity ∷ minusZero ∷ five ∷ nine ∷ ten ∷ minusOne ∷ four ∷ minusTwo ∷ minusInfinity ∷ fifteen ∷ [])
     (one ∷ two ∷ three ∷ infinity ∷ five ∷ six ∷ 0 ∷ minusZero ∷ nine ∷ ten ∷ minusOne ∷ minusTwo ∷ four ∷ minusInfinity ∷ fifteen ∷ [])
     -- A refused column in the last, narrower block column: the block column before it stays finished.
-    ∷ factors Blocked 3 2 6 (four ∷ two ∷ ten ∷ minusTwo ∷ five ∷ 0 ∷ []) (10, 2, minusFive) (two ∷ one ∷ three ∷ minusOne ∷ two ∷ 0 ∷ [])
+    ∷ factors Blocked 3 2 6 (four ∷ two ∷ ten ∷ minusTwo ∷ five ∷ 0 ∷ []) (10, 2, minusFive, false) (two ∷ one ∷ three ∷ minusOne ∷ two ∷ 0 ∷ [])
     -- A factor refused at place 0 ends its pipeline too.
-    ∷ ends (plainPipeline 1 1 1 (memory (0 ∷ [])) (memory (one ∷ [])) (used 1)) 1 (10, 0, 0) (10, 0, 0) (0 ∷ []) (one ∷ [])
-    ∷ ends (blockedPipeline 1 1 1 (memory (0 ∷ [])) (memory (one ∷ [])) (used 1)) 1 (10, 0, 0) (10, 0, 0) (0 ∷ []) (one ∷ [])
+    ∷ ends (plainPipeline 1 1 1 (memory (0 ∷ [])) (memory (one ∷ [])) (used 1)) 1 (10, 0, 0, false) (10, 0, 0, false) (0 ∷ []) (one ∷ [])
+    ∷ ends (blockedPipeline 1 1 1 (memory (0 ∷ [])) (memory (one ∷ [])) (used 1)) 1 (10, 0, 0, false) (10, 0, 0, false) (0 ∷ []) (one ∷ [])
     -- A refused factor ends its pipeline, the blocked one in blocked order; after a refused solver the factor stands in packed order.
     ∷ ends (plainPipeline 3 2 1 (memory (four ∷ two ∷ minusTwo ∷ ten ∷ five ∷ 0 ∷ [])) (memory (four ∷ seventeen ∷ nine ∷ [])) (used 3)) 3
-    (10, 2, minusFive) (10, 2, minusFive) (two ∷ one ∷ minusOne ∷ three ∷ two ∷ 0 ∷ []) (four ∷ seventeen ∷ nine ∷ [])
+    (10, 2, minusFive, false) (10, 2, minusFive, false) (two ∷ one ∷ minusOne ∷ three ∷ two ∷ 0 ∷ []) (four ∷ seventeen ∷ nine ∷ [])
     ∷ ends (blockedPipeline 3 2 1 (memory (four ∷ two ∷ minusTwo ∷ ten ∷ five ∷ 0 ∷ [])) (memory (four ∷ seventeen ∷ nine ∷ [])) (used 6)) 6
-    (10, 2, minusFive) (10, 2, minusFive) (two ∷ one ∷ three ∷ minusOne ∷ two ∷ 0 ∷ []) (four ∷ seventeen ∷ nine ∷ [])
+    (10, 2, minusFive, false) (10, 2, minusFive, false) (two ∷ one ∷ three ∷ minusOne ∷ two ∷ 0 ∷ []) (four ∷ seventeen ∷ nine ∷ [])
     ∷ ends (plainPipeline 3 2 1 (memory (four ∷ two ∷ minusTwo ∷ ten ∷ five ∷ six ∷ [])) (memory (four ∷ infinity ∷ nine ∷ [])) (used 3)) 3
-    success (8, 1, 0) (two ∷ one ∷ minusOne ∷ three ∷ two ∷ one ∷ []) (four ∷ infinity ∷ nine ∷ [])
+    allExact (8, 1, 0, false) (two ∷ one ∷ minusOne ∷ three ∷ two ∷ one ∷ []) (four ∷ infinity ∷ nine ∷ [])
     ∷ ends (blockedPipeline 3 2 1 (memory (four ∷ two ∷ minusTwo ∷ ten ∷ five ∷ six ∷ [])) (memory (four ∷ infinity ∷ nine ∷ [])) (used 6)) 6
-    success (8, 1, 0) (two ∷ one ∷ minusOne ∷ three ∷ two ∷ one ∷ []) (four ∷ infinity ∷ nine ∷ [])
+    allExact (8, 1, 0, false) (two ∷ one ∷ minusOne ∷ three ∷ two ∷ one ∷ []) (four ∷ infinity ∷ nine ∷ [])
     -- 11 at column 1: column 0 stays finished unless it is of the same block column.
-    ∷ factors Packed 3 1 3 (four ∷ 0 ∷ two ∷ twoToMinus1000 ∷ twoTo600 ∷ one ∷ []) (11, 1, 0)
+    ∷ factors Packed 3 1 3 (four ∷ 0 ∷ two ∷ twoToMinus1000 ∷ twoTo600 ∷ one ∷ []) (11, 1, 0, false)
     (two ∷ 0 ∷ one ∷ twoToMinus1000 ∷ twoTo600 ∷ one ∷ [])
-    ∷ factors Blocked 3 1 3 (four ∷ 0 ∷ two ∷ twoToMinus1000 ∷ twoTo600 ∷ one ∷ []) (11, 1, 0)
+    ∷ factors Blocked 3 1 3 (four ∷ 0 ∷ two ∷ twoToMinus1000 ∷ twoTo600 ∷ one ∷ []) (11, 1, 0, false)
     (two ∷ 0 ∷ one ∷ twoToMinus1000 ∷ twoTo600 ∷ one ∷ [])
-    ∷ factors Blocked 3 2 6 (four ∷ 0 ∷ twoToMinus1000 ∷ two ∷ twoTo600 ∷ one ∷ []) (11, 1, 0)
+    ∷ factors Blocked 3 2 6 (four ∷ 0 ∷ twoToMinus1000 ∷ two ∷ twoTo600 ∷ one ∷ []) (11, 1, 0, false)
     (four ∷ 0 ∷ twoToMinus1000 ∷ two ∷ twoTo600 ∷ one ∷ [])
     -- 10 stands before 11 within a column.
-    ∷ factors Packed 2 1 2 (0 ∷ one ∷ one ∷ []) (10, 0, 0) (0 ∷ one ∷ one ∷ [])
-    ∷ factors Blocked 2 2 4 (0 ∷ one ∷ one ∷ []) (10, 0, 0) (0 ∷ one ∷ one ∷ [])
+    ∷ factors Packed 2 1 2 (0 ∷ one ∷ one ∷ []) (10, 0, 0, false) (0 ∷ one ∷ one ∷ [])
+    ∷ factors Blocked 2 2 4 (0 ∷ one ∷ one ∷ []) (10, 0, 0, false) (0 ∷ one ∷ one ∷ [])
     -- l(3,2) is 1 − 2^−54 − 1: +0 with rising k, −2^−54 with falling k or the products summed first.
     ∷ factors Packed 4 1 4 (one ∷ 0 ∷ one ∷ twoToMinus54 ∷ one ∷ one ∷ one ∷ three ∷ one ∷ four ∷ []) success
     (one ∷ 0 ∷ one ∷ twoToMinus54 ∷ one ∷ one ∷ one ∷ one ∷ 0 ∷ 0x3FFB_B67A_E858_4CAA ∷ [])
     ∷ []
 
 pub examples-hold : T (all (λ r. r) rows)
-unfolding rows rearrange rearrangerChecks moved factorize factorChecks factored columnsVerdict solve solverChecks solved rhsVerdict rhsPart solution solutions clear plainPipeline blockedPipeline firstRefusal lowestRefusal rule1 rule2 rule3 rule4 rule5 rule6 finiteRule rule9 rule11 columnRules columnVerdict rule12 minusProducts pivot quotient below factorColumn cholesky forward backwardRows backward iterate grow tabulate all entry height placeOf load storeColumn store kind finite positive root judged triangle packedPlace blockedPlace blockWork toBits ofBits mul sub div lt
+unfolding rows rearrange rearrangerChecks moved factorize factorChecks factored columnsVerdict columnsExact solve solverChecks solved rhsVerdict rhsPart solution solutions clear plainPipeline blockedPipeline firstRefusal lowestRefusal rule1 rule2 rule3 rule4 rule5 rule6 finiteRule rule9 rule11 columnRules columnVerdict columnExact rule12 minusProducts pivot quotient below factorColumn cholesky forward backwardRows backward iterate grow tabulate all every entry height placeOf load storeColumn store kind finite positive root squares exact judged triangle packedPlace blockedPlace blockWork toBits ofBits mul sub div lt
 examples-hold = tt

@@ -1,15 +1,19 @@
--- Laws of judging rules one after another: a list of rules in two parts, and a search for the lowest refused one. Assumes nothing.
-use Prim.Native.Nat.{ℕ, zero, suc, _+_, _≤_, _<_}
+-- Laws of judging one after another: a list of rules in two parts, a search for the lowest refused one, and the columns of a factor. Assumes nothing.
+use Prim.Native.Nat.{ℕ, zero, suc, _+_, _-_, _≤_, _<_}
+use native.Mathlib.Nat.{add-zero, add-suc}
 use native.Mathlib.Numerals.{add-one}
 use native.Mathlib.Omega.{arith}
 use native.Mathlib.Decide.{decLt}
-use mathlib.Core.Path.{_≡_, refl, sym, _∙_}
-use mathlib.Core.Bool.{Bool, true, false, cond, not}
+use mathlib.Core.Path.{_≡_, refl, sym, ap, _∙_}
+use mathlib.Core.Bool.{Bool, true, false, cond, not, _&&_}
 use mathlib.Core.List.{List, [], _∷_, _++_}
 use borrow.Author.Tests.{not-true, not-false, le-leb, lt-leb, le-ltb, lt-ltb}
 use lib.Dec.{T, leb, ltb}
 use Rattle.calls.specs.declared.Verdict.{Verdict}
+use Rattle.calls.specs.declared.Judgement.{Judgement}
+use Rattle.calls.specs.Sequences.{every}
 use Rattle.calls.specs.Refusals.{success, accepted, firstRefusal, lowestRefusal}
+use Rattle.calls.specs.Judgements.{judgedTo}
 use Rattle.calls.proofs.Refusals.{lowest-accepted, lowest-success}
 
 -- ---- tests
@@ -88,3 +92,29 @@ module _ (judge : ℕ → Verdict) where
 
   pub lowest-all : ((k : ℕ) → T (accepted (judge k)) → judge k ≡ success) → (n : ℕ) → T (accepted (lowestRefusal judge n)) → lowestRefusal judge n ≡ success
   lowest-all s n h = lowest-success judge n (λ k p. s k (lowest-accepted judge n h k p))
+
+  -- what is refused stays refused
+  pub lowest-stays : (k d : ℕ) → accepted (lowestRefusal judge k) ≡ false → lowestRefusal judge (k + d) ≡ lowestRefusal judge k
+  unfolding lowestRefusal
+  lowest-stays k zero e = rw add-zero
+  lowest-stays k (suc d) e = rw (add-suc, lowest-stays k d e, e)
+
+-- ---- what columns are judged to
+
+module _ (judge : ℕ → Verdict) (exact : ℕ → Bool) where
+  pub judged-stays : (k n : ℕ) → k ≤ n → accepted (lowestRefusal judge k) ≡ false → judgedTo judge exact k ≡ judgedTo judge exact n
+  judged-stays k n h e =
+      let total : k + (n - k) ≡ n = omega arith in
+      let same : lowestRefusal judge n ≡ lowestRefusal judge k = rw total at (lowest-stays judge k (n - k) e) in
+      rw (same, e) refl
+
+  pub judged-next :
+      (k : ℕ) → accepted (lowestRefusal judge k) ≡ true →
+      record { verdict = judge k; exact = (accepted (lowestRefusal judge k) && every exact k) && (accepted (judge k) && exact k) } ≡ judgedTo judge exact (k + 1)
+  unfolding lowestRefusal every
+  judged-next k e = rw (add-one k, e) (ap (λ t. record { verdict = judge k; exact = t }) (both (every exact k) (accepted (judge k)) (exact k)))
+    where
+      both : (a b c : Bool) → a && (b && c) ≡ b && (a && c)
+      both a true c = refl
+      both true false c = refl
+      both false false c = refl

@@ -11,4 +11,5 @@ pub mod Rearranging
 pub mod Agreement
 pub mod Entries
 pub mod Pivots
+pub mod Exactness
 pub mod Examples

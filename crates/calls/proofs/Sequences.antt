@@ -1,4 +1,4 @@
--- Laws of specs/Sequences.antt: lengths and elements of grown lists, and what `all` says of each element. Assumes nothing.
+-- Laws of specs/Sequences.antt: lengths and elements of grown lists, and what `all` and `every` say of each element. Assumes nothing.
 use Prim.Native.Nat.{ℕ, zero, suc, _+_, _<_}
 use native.Mathlib.Nat.{zero-add, suc-add}
 use native.Mathlib.Numerals.{add-one}
@@ -11,7 +11,7 @@ use lib.Dec.{T}
 use lib.ListN.{length, getD, take, drop, length-append, List·getD-append}
 use lib.Seq.{getD-at, ext-getD, take-suc, take-nil, drop-nil}
 use lib.Ieee.Fits.{and-i, and-l, and-r}
-use Rattle.calls.specs.Sequences.{grow, tabulate, all}
+use Rattle.calls.specs.Sequences.{grow, tabulate, all, every}
 
 -- ---- grown lists
 
@@ -82,3 +82,19 @@ module _ {A : Type 0} (test : A → Bool) where
   unfolding all
   all-of [] d h = tt
   all-of (x ∷ xs) d h = and-i (test x) (all test xs) (h zero (omega arith)) (all-of xs d (λ i p. h (suc i) (omega arith)))
+
+-- ---- every
+
+pub every-at : (test : ℕ → Bool) (n : ℕ) → T (every test n) → (k : ℕ) → k < n → T (test k)
+unfolding every
+every-at test zero t k h = absurd (omega arith)
+every-at test (suc n) t k h =
+    elim (decLt k n) [
+      | yes p ↦ every-at test n (and-l (every test n) (test n) t) k p
+      | no p ↦ let e : k ≡ n = omega arith in rw e (and-r (every test n) (test n) t)
+    ]
+
+pub every-of : (test : ℕ → Bool) (n : ℕ) → ((k : ℕ) → k < n → T (test k)) → T (every test n)
+unfolding every
+every-of test zero h = tt
+every-of test (suc n) h = and-i (every test n) (test n) (every-of test n (λ k p. h k (omega arith))) (h n (omega arith))

@@ -1,7 +1,7 @@
 -- The six calls, for all inputs: what each returns and what it leaves in every memory. Codes 1 to 9 leave all memory untouched.
 use Prim.Native.Nat.{ℕ, _*_}
 use mathlib.Core.Path.{_≡_}
-use mathlib.Core.Bool.{Bool, cond}
+use mathlib.Core.Bool.{Bool, false, cond}
 use mathlib.Core.List.{List, [], _∷_, _++_}
 use lib.Dec.{eqb}
 use lib.ListN.{length, take, drop, replicate}
@@ -9,18 +9,24 @@ use lib.Ieee.{Float}
 use Rattle.binary64.specs.Kinds.{zero64}
 use Rattle.shape.specs.Places.{blockOf}
 use Rattle.calls.specs.declared.Verdict.{Verdict}
+use Rattle.calls.specs.declared.Judgement.{Judgement}
 use Rattle.calls.specs.declared.CallResult.{CallResult}
-use Rattle.calls.specs.Sequences.{iterate}
+use Rattle.calls.specs.Sequences.{iterate, every}
 use Rattle.calls.specs.declared.Layout.{Layout}
 use Rattle.calls.specs.declared.Layout.the-variants.{Packed, Blocked}
 use Rattle.calls.specs.Triangles.{Triangle, placeOf, height, load, store}
 use Rattle.calls.specs.Arithmetic.{cholesky, forward, backward}
 use Rattle.calls.specs.declared.Call.the-variants.{Rearranger, Factor, Solver}
-use Rattle.calls.specs.Refusals.{neededWork, success, accepted, firstRefusal, lowestRefusal, rule1, rule2, rule3, rule4, rule5, rule6, rule7, rule8, rule9, columnVerdict, rule12}
+use Rattle.calls.specs.Refusals.{neededWork, success, accepted, firstRefusal, lowestRefusal, rule1, rule2, rule3, rule4, rule5, rule6, rule7, rule8, rule9, columnVerdict, columnExact, rule12}
+use Rattle.calls.specs.Judgements.{judgement}
 
--- What a call returns, made from its verdict here alone.
+-- What a call returns, made here alone: from its verdict, and of a factor's columns also from whether all are accepted and every root is exact. A call
+-- that takes no root, or is refused before it takes one, answers no.
 abbrev pub resultOf : Verdict → CallResult
-resultOf v = record { code = v .code; place = v .place; value = v .value }
+resultOf v = record { code = v .code; place = v .place; value = v .value; exact = false }
+
+abbrev pub judgedResult : Judgement → CallResult
+judgedResult j = record { code = j .verdict .code; place = j .verdict .place; value = j .verdict .value; exact = j .exact }
 
 abbrev pub succeeded : CallResult → Bool
 succeeded r = eqb (r .code) 0
@@ -84,6 +90,13 @@ factorChecks layout n b matrix workLength =
 unfoldable pub columnsVerdict : ℕ → Triangle → Verdict
 columnsVerdict n a = lowestRefusal (λ j. columnVerdict (height n) a (cholesky (height n) a j) j) n
 
+-- whether each column's root is exact
+unfoldable pub columnsExact : ℕ → Triangle → Bool
+columnsExact n a = every (λ j. columnExact a (cholesky (height n) a j) j) n
+
+abbrev pub columnsJudged : ℕ → Triangle → Judgement
+columnsJudged n a = judgement (columnsVerdict n a) (columnsExact n a)
+
 -- The columns that are finished in the end: all; or after 10 or 11 those before the place, of the blocked factor those before its block column.
 abbrev pub finished : Layout → ℕ → ℕ → Verdict → ℕ
 finished Packed n b verdict = cond (accepted verdict) n (verdict .place)
@@ -94,7 +107,7 @@ factored layout n b matrix work =
     let a = load (placeOf layout n b) (height n) n matrix in
     let verdict = columnsVerdict n a in
     record {
-      result = resultOf verdict;
+      result = judgedResult (columnsJudged n a);
       matrix = store (placeOf layout n b) (cholesky (height n) a (finished layout n b verdict)) matrix;
       work = clear (neededWork (Factor layout) n b) work;
     }

@@ -3,5 +3,6 @@ pub mod Sequences
 pub mod Triangles
 pub mod Arithmetic
 pub mod Refusals
+pub mod Judgements
 pub mod Calls
 pub mod Pipelines

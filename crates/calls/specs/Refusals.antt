@@ -6,7 +6,7 @@ use lib.Dec.{ltb, eqb}
 use lib.ListN.{length, getD}
 use lib.Ieee.{Float, nan}
 use Rattle.binary64.specs.Kinds.{finite, positive, zero64}
-use Rattle.binary64.specs.Judged.{judged}
+use Rattle.binary64.specs.Judged.{judged, exactRoot}
 use Rattle.binary64.specs.declared.Pivot.{Pivot}
 use Rattle.binary64.specs.declared.Pivot.the-variants.{Root, Refused}
 use Rattle.shape.specs.Bounds.{maxOrder, maxBlock, maxRhs}
@@ -96,7 +96,7 @@ rule9 place n matrix = lowestRefusal (λ j. refuseIf (not (positive (getD matrix
 
 -- 10. A column's pivot is not greater than zero (place: the column; value: the pivot's bits).
 abbrev pub rule10 : ℕ → Pivot → Verdict
-rule10 j (Root r) = success
+rule10 j (Root r e) = success
 rule10 j (Refused v) = refusal 10 j v
 
 -- 11. A column's pivot passes but an entry below it is not finite (place: the column).
@@ -110,6 +110,10 @@ columnRules j judgedPivot finiteBelow = firstRefusal (rule10 j judgedPivot ∷ r
 -- column j judged, the columns of l before it being known
 unfoldable pub columnVerdict : (ℕ → ℕ) → Triangle → Triangle → ℕ → Verdict
 columnVerdict heightOf a l j = columnRules j (judged (pivot a l j)) (all finite (below heightOf a j l))
+
+-- whether its root is exact
+unfoldable pub columnExact : Triangle → Triangle → ℕ → Bool
+columnExact a l j = exactRoot (judged (pivot a l j))
 
 -- 12. A right-hand side meets a y or x that is not finite (place: number of the right-hand side).
 unfoldable pub rule12 : ℕ → List Float → List Float → Verdict

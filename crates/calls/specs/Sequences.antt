@@ -20,3 +20,8 @@ tabulate count f = grow (λ k before. f k) count
 unfoldable pub all : {A : Type 0} → (A → Bool) → List A → Bool
 all test [] = true
 all test (x ∷ xs) = test x && all test xs
+
+-- the test holds of 0 .. count − 1
+unfoldable pub every : (ℕ → Bool) → ℕ → Bool
+every test zero = true
+every test (suc k) = every test k && test k

@@ -1,8 +1,9 @@
-// What the six calls share: the layouts, the kinds of calls, a rule's verdict and a call's result.
+// What the six calls share: the layouts, the kinds of calls, a rule's verdict, a factor's judgement and a call's result.
 ghost use mathlib.Core.Path.{_≡_};
 ghost use Rattle.binary64.specs.Kinds.{zero64};
 ghost use Rattle.calls.specs.Refusals as Refusals;
 ghost use Rattle.calls.specs.Calls as Calls;
+ghost use Rattle.calls.specs.Judgements.{Joined};
 
 // Where the entries of a matrix are kept. The plain factor and solver work on packed memory, the blocked ones on blocked memory.
 pub enum Layout {
@@ -23,12 +24,19 @@ pub struct Verdict {
     pub value: f64,
 }
 
+// What a factor's columns are judged to so far: the verdict, and whether all are accepted and every root is exact.
+pub struct Judgement {
+    pub verdict: Verdict,
+    pub exact: bool,
+}
+
 // What a call returns.
 #[repr(C)]
 pub struct CallResult {
     pub code: usize,
     pub place: usize,
     pub value: f64,
+    pub exact: bool,
 }
 
 // The verdict of a rule that states no value; success where the code is 0.
@@ -48,7 +56,22 @@ pub fn accepted(verdict: Verdict) -> bool
     verdict.code == 0
 }
 
-// Every call makes its result here.
+// The columns before one and that one itself, judged together: none after the first that is refused decides.
+pub fn joined(before: Judgement, column: Judgement) -> Judgement
+    ensures { λ r. ⌜ Joined before column r ⌝ }
+{
+    let decided = before.verdict;
+    if !accepted(decided) {
+        return before;
+    }
+    let verdict = column.verdict;
+    Judgement {
+        verdict,
+        exact: before.exact & column.exact,
+    }
+}
+
+// Every call makes its result here: of a call that takes no root, or is refused before it takes one, from its verdict, and of a factor from what its columns are judged to.
 pub fn result(verdict: Verdict) -> CallResult
     ensures { λ r. ⌜ r ≡ Calls.resultOf verdict ⌝ }
 {
@@ -56,5 +79,17 @@ pub fn result(verdict: Verdict) -> CallResult
         code: verdict.code,
         place: verdict.place,
         value: verdict.value,
+        exact: false,
+    }
+}
+
+pub fn judged_result(judgement: Judgement) -> CallResult
+    ensures { λ r. ⌜ r ≡ Calls.judgedResult judgement ⌝ }
+{
+    CallResult {
+        code: judgement.verdict.code,
+        place: judgement.verdict.place,
+        value: judgement.verdict.value,
+        exact: judgement.exact,
     }
 }

@@ -9,21 +9,23 @@ use lib.ListN.{length, getD}
 use lib.Ieee.{Float, nan, binary64, div}
 use Rattle.binary64.specs.Kinds.{finite}
 use Rattle.binary64.specs.Root.{root}
-use Rattle.binary64.specs.Judged.{judged}
+use Rattle.binary64.specs.Judged.{judged, exactRoot}
 use Rattle.binary64.specs.declared.Pivot.{Pivot}
 use Rattle.shape.specs.Places.{triangle, packedPlace}
 use Rattle.shape.specs.Layouts.{Entry}
 use Rattle.shape.proofs.Bijections.{packed-bijection}
 use Rattle.calls.specs.declared.Verdict.{Verdict}
+use Rattle.calls.specs.declared.Judgement.{Judgement}
 use Rattle.calls.specs.Sequences.{iterate, grow, all, tabulate}
 use Rattle.calls.specs.Triangles.{Triangle, entry, height, storeColumn, store}
 use Rattle.calls.specs.Arithmetic.{minusProducts, pivot, quotient, below, factorColumn, cholesky}
-use Rattle.calls.specs.Refusals.{success, accepted, lowestRefusal, columnRules, columnVerdict}
-use Rattle.calls.specs.Calls.{columnsVerdict}
+use Rattle.calls.specs.Refusals.{success, accepted, lowestRefusal, columnRules, columnVerdict, columnExact}
+use Rattle.calls.specs.Judgements.{judgement, judgedTo}
+use Rattle.calls.specs.Calls.{columnsVerdict, columnsExact}
 use Rattle.calls.proofs.Sequences.{length-tabulate, getD-tabulate, tabulate-of}
 use Rattle.calls.proofs.Triangles.{entry-load, stored, store-same, store-other}
 use Rattle.calls.proofs.Columns.{columns, column-of, shaped-columns, products-same}
-use Rattle.calls.proofs.Judging.{lowest-next, lowest-found}
+use Rattle.calls.proofs.Judging.{lowest-next, judged-stays}
 use Rattle.calls.proofs.ColumnRules.{rules-success, rules-place}
 use Rattle.plain_factor.specs.Steps.{held, Judged, Factored}
 
@@ -48,6 +50,9 @@ prefixOf n m j = store (packedPlace n) (columns n (held n m) j) m
 -- how column j is judged, from the columns before it
 abbrev pub ruleOf : ℕ → List Float → ℕ → Verdict
 ruleOf n m j = columnVerdict (height n) (held n m) (columns n (held n m) j) j
+
+abbrev pub exactOf : ℕ → List Float → ℕ → Bool
+exactOf n m j = columnExact (held n m) (columns n (held n m) j) j
 
 pub prefix-none : (n : ℕ) (m : List Float) → m ≡ prefixOf n m 0
 unfolding store cholesky grow iterate
@@ -114,64 +119,70 @@ module _ (n : ℕ) (m : List Float) (size : length m ≡ triangle n) where
     unfolding columnVerdict
     prefix-rules = ap₂ (λ x xs. columnRules j (judged x) (all finite xs)) prefix-pivot prefix-below
 
+    prefix-exact : columnExact t t j ≡ columnExact a l j
+    unfolding columnExact
+    prefix-exact = ap (λ x. exactRoot (judged x)) prefix-pivot
+
     prefix-factor-column : factorColumn (height n) t j t ≡ factorColumn (height n) a j l
     unfolding factorColumn
     prefix-factor-column = ap₂ (λ p b. root p ∷ b) prefix-pivot prefix-below
 
-  -- a turn of the column loop
+  -- one column more, judged
   prefix-judged :
-      (j : ℕ) (s s′ : List Float) (r : Verdict) → j < n → s ≡ prefix j → Judged n j s r s′ →
-      (r ≡ ruleOf n m j) × (s′ ≡ cond (accepted r) (prefix (suc j)) (prefix j))
+      (j : ℕ) (s s′ : List Float) (r : Judgement) → j < n → s ≡ prefix j → Judged n j s r s′ →
+      (r ≡ judgement (ruleOf n m j) (exactOf n m j)) × (s′ ≡ cond (accepted (ruleOf n m j)) (prefix (suc j)) (prefix j))
   prefix-judged j s s′ r inside e g =
-      let g′ : Judged n j (prefix j) r s′ = rw e at g in (
-        g′ .result ∙ prefix-rules j inside,
+      let g′ : Judged n j (prefix j) r s′ = rw e at g in
+      let is : r ≡ judgement (ruleOf n m j) (exactOf n m j) = g′ .result ∙ ap₂ judgement (prefix-rules j inside) (prefix-exact j inside) in (
+        is,
         g′ .matrix
-            ∙ ap (λ c. cond (accepted r) (storeColumn (packedPlace n) j c (prefix j)) (prefix j)) (prefix-factor-column j inside)
-            ∙ ap (λ x. cond (accepted r) x (prefix j)) (sym (prefix-next j inside)),
+            ∙ ap (λ c. cond (accepted (r .verdict)) (storeColumn (packedPlace n) j c (prefix j)) (prefix j)) (prefix-factor-column j inside)
+            ∙ ap (λ x. cond (accepted (r .verdict)) x (prefix j)) (sym (prefix-next j inside))
+            ∙ ap (λ (x : Judgement). cond (accepted (x .verdict)) (prefix (suc j)) (prefix j)) is,
       )
 
--- ---- the verdict on all columns
+-- ---- what all columns are judged to
 
-module _ (n : ℕ) (m : List Float) (j : ℕ) (before : lowestRefusal (ruleOf n m) j ≡ success) where
-  abbrev pivotHere : Pivot
-  pivotHere = judged (pivot (held n m) (columns n (held n m) j) j)
+pub judged-all :
+    (n : ℕ) (m s : List Float) (r : Judgement) → lowestRefusal (ruleOf n m) n ≡ success → r ≡ judgedTo (ruleOf n m) (exactOf n m) n → s ≡ prefixOf n m n →
+    Factored n m r s
+unfolding columnsVerdict columnsExact
+judged-all n m s r before is e = record { result = is; matrix = e ∙ rw (is, before) refl }
 
-  abbrev finiteBelow : Bool
-  finiteBelow = all finite (below (height n) (held n m) j (columns n (held n m) j))
-
-  verdict-next : accepted (ruleOf n m j) ≡ true → lowestRefusal (ruleOf n m) (j + 1) ≡ success
-  unfolding columnVerdict
-  verdict-next t = lowest-next (ruleOf n m) j before ∙ rules-success j pivotHere finiteBelow (rw t tt)
-
-  verdict-here :
-      (s : List Float) → j < n → s ≡ prefixOf n m j → accepted (ruleOf n m j) ≡ false → Factored n m (ruleOf n m j) s
-  unfolding columnsVerdict columnVerdict
-  verdict-here s inside e f =
-      record {
-        result = sym (lowest-found (ruleOf n m) j n inside before f);
-        matrix = e ∙ rw (f, rules-place j pivotHere finiteBelow f);
-      }
-
-pub verdict-all :
-    (n : ℕ) (m s : List Float) → lowestRefusal (ruleOf n m) n ≡ success → s ≡ prefixOf n m n → Factored n m success s
-unfolding columnsVerdict
-verdict-all n m s before e = record { result = sym before; matrix = e }
-
--- ---- a turn of the column loop
+-- ---- a turn of the column loop: a column, and what those up to it are judged to
 
 module _ (n : ℕ) (m : List Float) (size : length m ≡ triangle n) (j : ℕ) (inside : j < n) (before : lowestRefusal (ruleOf n m) j ≡ success)
-    (s s′ : List Float) (r : Verdict) (written : s ≡ prefixOf n m j) (judged : Judged n j s r s′) where
-  pub columns-refused : accepted r ≡ false → Factored n m r s′
-  columns-refused f =
-      let turn : (r ≡ ruleOf n m j) × (s′ ≡ cond (accepted r) (prefixOf n m (suc j)) (prefixOf n m j)) =
-      prefix-judged n m size j s s′ r inside written judged
-      in
-      rw (turn .0)
-      (verdict-here n m j before s′ inside (turn .1 ∙ ap (λ b. cond b (prefixOf n m (suc j)) (prefixOf n m j)) f) (ap accepted (sym (turn .0)) ∙ f))
+    (s s′ : List Float) (r : Judgement) (written : s ≡ prefixOf n m j) (column : Judged n j s r s′) where
+  pub column-is : r ≡ judgement (ruleOf n m j) (exactOf n m j)
+  column-is = prefix-judged n m size j s s′ r inside written column .0
 
-  pub columns-continued : accepted r ≡ true → (s′ ≡ prefixOf n m (j + 1)) × (lowestRefusal (ruleOf n m) (j + 1) ≡ success)
-  columns-continued t =
-      let turn : (r ≡ ruleOf n m j) × (s′ ≡ cond (accepted r) (prefixOf n m (suc j)) (prefixOf n m j)) =
-      prefix-judged n m size j s s′ r inside written judged
-      in
-      (rw add-one (turn .1 ∙ ap (λ b. cond b (prefixOf n m (suc j)) (prefixOf n m j)) t), verdict-next n m j before (ap accepted (sym (turn .0)) ∙ t))
+  module _ (answer : Judgement) (joined : answer ≡ judgedTo (ruleOf n m) (exactOf n m) (j + 1)) where
+    abbrev pivotHere : Pivot
+    pivotHere = judged (pivot (held n m) (columns n (held n m) j) j)
+
+    abbrev finiteBelow : Bool
+    finiteBelow = all finite (below (height n) (held n m) j (columns n (held n m) j))
+
+    verdict-is : answer .verdict ≡ ruleOf n m j
+    verdict-is = ap (λ (x : Judgement). x .verdict) joined ∙ lowest-next (ruleOf n m) j before
+
+    memory-is : {t : Bool} → accepted (answer .verdict) ≡ t → s′ ≡ cond t (prefixOf n m (suc j)) (prefixOf n m j)
+    memory-is e =
+        prefix-judged n m size j s s′ r inside written column .1
+        ∙ ap (λ b. cond b (prefixOf n m (suc j)) (prefixOf n m j)) (ap accepted (sym verdict-is) ∙ e)
+
+    pub columns-refused : accepted (answer .verdict) ≡ false → Factored n m answer s′
+    unfolding columnsVerdict columnsExact columnVerdict
+    columns-refused f =
+        let refused : accepted (ruleOf n m j) ≡ false = ap accepted (sym verdict-is) ∙ f in
+        record {
+          result = joined ∙ judged-stays (ruleOf n m) (exactOf n m) (j + 1) n (omega arith) (ap (λ (x : Judgement). accepted (x .verdict)) (sym joined) ∙ f);
+          matrix = memory-is f ∙ rw (verdict-is, refused, rules-place j pivotHere finiteBelow refused) refl;
+        }
+
+    pub columns-continued : accepted (answer .verdict) ≡ true → (s′ ≡ prefixOf n m (j + 1)) × (lowestRefusal (ruleOf n m) (j + 1) ≡ success)
+    unfolding columnVerdict
+    columns-continued t = (
+      rw add-one (memory-is t),
+      lowest-next (ruleOf n m) j before ∙ rules-success j pivotHere finiteBelow (rw (ap accepted (sym verdict-is) ∙ t) tt),
+    )

@@ -13,17 +13,18 @@ use lib.Seq.{getD-drop, drop-cons, getD-set-same, getD-set-other}
 use lib.Ieee.{Float, nan, binary64, div}
 use Rattle.binary64.specs.Kinds.{finite}
 use Rattle.binary64.specs.Root.{root}
-use Rattle.binary64.specs.Judged.{judged}
+use Rattle.binary64.specs.Judged.{judged, exactRoot}
 use Rattle.binary64.specs.declared.Pivot.{Pivot}
 use Rattle.binary64.specs.declared.Pivot.the-variants.{Root, Refused}
 use Rattle.shape.specs.Places.{packedPlace}
 use Rattle.shape.specs.Layouts.{Entry}
 use Rattle.shape.proofs.Bijections.{packed-bijection}
-use Rattle.calls.specs.declared.Verdict.{Verdict}
+use Rattle.calls.specs.declared.Judgement.{Judgement}
 use Rattle.calls.specs.Sequences.{all}
 use Rattle.calls.specs.Triangles.{Triangle, entry, height, storeColumn}
 use Rattle.calls.specs.Arithmetic.{minusProducts, pivot, quotient, below, factorColumn}
-use Rattle.calls.specs.Refusals.{accepted, columnRules, columnVerdict}
+use Rattle.calls.specs.Refusals.{accepted, columnRules, columnVerdict, columnExact}
+use Rattle.calls.specs.Judgements.{judgement}
 use Rattle.calls.proofs.Sequences.{tabulate-of}
 use Rattle.calls.proofs.Triangles.{entry-load, column-other}
 use Rattle.calls.proofs.Columns.{length-column, products-same}
@@ -96,8 +97,9 @@ module _ (n j : ℕ) (m w : List Float) (s : Column n j m) (size : length w ≡ 
 
   -- a refused pivot decides, whatever stands below it
   pub pivot-refused :
-      {p : Pivot} {v : Float} {r : Verdict} → p ≡ judged (getD w j nan) → p ≡ Refused v → r ≡ columnRules j p true → Judged n j m r m
-  unfolding columnVerdict
+      {p : Pivot} {v : Float} {r : Judgement} →
+      p ≡ judged (getD w j nan) → p ≡ Refused v → r ≡ judgement (columnRules j p true) (exactRoot p) → Judged n j m r m
+  unfolding columnVerdict columnExact
   pivot-refused {p} is e er =
       let here : p ≡ judged x = column-pivot is in
       let no : accepted (columnRules j p true) ≡ false =
@@ -105,37 +107,39 @@ module _ (n j : ℕ) (m w : List Float) (s : Column n j m) (size : length w ≡ 
       (λ h. let z : _≡_ {A = ℕ} 0 1 = cc (rules-accepted j x true (rw (← here, h) tt) .0) in omega arith)
       in
       record {
-        result = er ∙ sym (rules-pivot j p (all finite (below (height n) (held n m) j (held n m))) no) ∙ rw here;
+        result =
+            er
+            ∙ ap₂ judgement (sym (rules-pivot j p (all finite (below (height n) (held n m) j (held n m))) no) ∙ rw here) (ap exactRoot here);
         matrix = rw (er, no);
       }
 
-  module _ (d : Float) (w′ : List Float) (finiteRows : Bool) (is : Root d ≡ judged (getD w j nan)) (size′ : length w′ ≡ n)
+  module _ (d : Float) (t : Bool) (w′ : List Float) (finiteRows : Bool) (is : Root d t ≡ judged (getD w j nan)) (size′ : length w′ ≡ n)
       (divided : Divided j d w w′ finiteRows) where
     root-is : d ≡ root x
-    root-is = judged-root x d (sym (column-pivot is))
+    root-is = judged-root x d t (sym (column-pivot is))
 
     pub column-judged :
-        {r : Verdict} {m′ : List Float} → r ≡ columnRules j (Root d) finiteRows →
-        m′ ≡ cond (accepted r) (storeColumn (packedPlace n) j (drop j w′) m) m → Judged n j m r m′
-    unfolding columnVerdict
+        {r : Judgement} {m′ : List Float} → r ≡ judgement (columnRules j (Root d t) finiteRows) t →
+        m′ ≡ cond (accepted (r .verdict)) (storeColumn (packedPlace n) j (drop j w′) m) m → Judged n j m r m′
+    unfolding columnVerdict columnExact
     column-judged {r} er stored =
         record {
           result =
               er
-              ∙ ap₂ (columnRules j) (column-pivot is)
+              ∙ ap₂ (λ p f. judgement (columnRules j p f) (exactRoot p)) (column-pivot is)
               (divided .finites ∙ ap (all finite) (below-held n j m w w′ d finiteRows size size′ (s .column) rows divided root-is));
           matrix =
               stored
-              ∙ ap (λ c. cond (accepted r) (storeColumn (packedPlace n) j c m) m)
+              ∙ ap (λ c. cond (accepted (r .verdict)) (storeColumn (packedPlace n) j c m) m)
               (column-held n j m w w′ d finiteRows size size′ (s .column) rows divided root-is);
         }
 
 -- ---- what a column leaves
 
-module _ (n j : ℕ) (m m′ : List Float) (r : Verdict) (inside : j < n) (g : Judged n j m r m′) where
+module _ (n j : ℕ) (m m′ : List Float) (r : Judgement) (inside : j < n) (g : Judged n j m r m′) where
   -- the other columns are as they were
   others-kept : (i c : ℕ) → Entry n i c → c ≢ j → getD m′ (packedPlace n i c) nan ≡ getD m (packedPlace n i c) nan
-  others-kept i c e ne = ap (λ x. getD x (packedPlace n i c) nan) (g .matrix) ∙ go (accepted r)
+  others-kept i c e ne = ap (λ x. getD x (packedPlace n i c) nan) (g .matrix) ∙ go (accepted (r .verdict))
     where
       column : List Float
       column = factorColumn (height n) (held n m) j (held n m)

@@ -10,12 +10,13 @@ use lib.Ieee.{Float, nan, binary64, div}
 use Rattle.binary64.specs.Kinds.{finite}
 use Rattle.shape.specs.Bounds.{maxOrder}
 use Rattle.shape.specs.Places.{triangle, packedPlace}
-use Rattle.calls.specs.declared.Verdict.{Verdict}
+use Rattle.calls.specs.declared.Judgement.{Judgement}
 use Rattle.calls.specs.Sequences.{all}
 use Rattle.calls.specs.Triangles.{Triangle, height, load, storeColumn, store}
 use Rattle.calls.specs.Arithmetic.{minusProducts, factorColumn, cholesky}
-use Rattle.calls.specs.Refusals.{accepted, columnVerdict}
-use Rattle.calls.specs.Calls.{columnsVerdict}
+use Rattle.calls.specs.Refusals.{accepted, columnVerdict, columnExact}
+use Rattle.calls.specs.Judgements.{judgement}
+use Rattle.calls.specs.Calls.{columnsJudged}
 use Rattle.kernels.specs.Kernels.{Filled}
 
 -- the sizes of order n, column j and memory m
@@ -110,11 +111,11 @@ pub record Divided (j : ℕ) (d : Float) (w w′ : List Float) (finiteRows : Boo
   pub finites : finiteRows ≡ all finite (drop (j + 1) w′)
 
 -- column j judged, and written where it is accepted
-pub record Judged (n j : ℕ) (m : List Float) (r : Verdict) (m′ : List Float) : Type 0 where
-  pub result : r ≡ columnVerdict (height n) (held n m) (held n m) j
-  pub matrix : m′ ≡ cond (accepted r) (storeColumn (packedPlace n) j (factorColumn (height n) (held n m) j (held n m)) m) m
+pub record Judged (n j : ℕ) (m : List Float) (r : Judgement) (m′ : List Float) : Type 0 where
+  pub result : r ≡ judgement (columnVerdict (height n) (held n m) (held n m) j) (columnExact (held n m) (held n m) j)
+  pub matrix : m′ ≡ cond (accepted (r .verdict)) (storeColumn (packedPlace n) j (factorColumn (height n) (held n m) j (held n m)) m) m
 
 -- all columns judged up to the first that is refused, and those before it written
-pub record Factored (n : ℕ) (m : List Float) (r : Verdict) (m′ : List Float) : Type 0 where
-  pub result : r ≡ columnsVerdict n (held n m)
-  pub matrix : m′ ≡ store (packedPlace n) (cholesky (height n) (held n m) (cond (accepted r) n (r .place))) m
+pub record Factored (n : ℕ) (m : List Float) (r : Judgement) (m′ : List Float) : Type 0 where
+  pub result : r ≡ columnsJudged n (held n m)
+  pub matrix : m′ ≡ store (packedPlace n) (cholesky (height n) (held n m) (cond (accepted (r .verdict)) n (r .verdict .place))) m

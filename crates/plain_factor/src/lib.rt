@@ -12,8 +12,8 @@ ghost use Rattle.plain_factor.specs.Steps.{Column, Group, Room, Tops, Sa
 ghost use Rattle.plain_factor.specs.Steps.{Reduced, Waiting, Formed, RowsDivided, Divided, Judged, Factored};
 use binary64::Pivot;
 use calls::CallResult;
+use calls::Judgement;
 use calls::Layout;
-use calls::Verdict;
 use shape::Shape;
 
 // The place of entry (i, k), less i. The product is even, so the division is exact.
@@ -375,7 +375,7 @@ fn divide_rows(work: &mut [f64], j: usize, diagonal: f64) -> bool
 }
 
 // The column that is formed in the work memory, judged, and written to the matrix where it is accepted.
-fn finish_column(matrix: &mut [f64], work: &mut [f64], n: usize, j: usize) -> Verdict
+fn finish_column(matrix: &mut [f64], work: &mut [f64], n: usize, j: usize) -> Judgement
     requires { ⌜ Column n j (now matrix) ⌝ }
     requires { ⌜ length (now work) ≡ n ⌝ }
     requires { ⌜ Reduced n (now matrix) j j j n (now work) ⌝ }
@@ -385,13 +385,14 @@ fn finish_column(matrix: &mut [f64], work: &mut [f64], n: usize, j: usize) -> Ve
     let pivot = binary64::judge(work[j]);
     match pivot {
         Pivot::Refused(_) => checks::judge_column(j, pivot, true),
-        Pivot::Root(diagonal) => {
+        Pivot::Root(diagonal, _) => {
             let finite = divide_rows(work, j, diagonal);
-            let verdict = checks::judge_column(j, pivot, finite);
+            let judged = checks::judge_column(j, pivot, finite);
+            let verdict = judged.verdict;
             if calls::accepted(verdict) {
                 store_column(matrix, work, n, j);
             }
-            verdict
+            judged
         }
     }
 }
@@ -403,7 +404,7 @@ fn factor_column(
     j: usize,
     top: usize,
     next: usize,
-) -> Verdict
+) -> Judgement
     requires { ⌜ Column n j (now matrix) ⌝ }
     requires { ⌜ length (now work) ≡ n ⌝ }
     requires { ⌜ Tops n j top next ⌝ }
@@ -435,33 +436,40 @@ fn next_top(n: usize, j: usize, top: usize) -> usize
 }
 
 // The columns in rising order, and none after the first that is refused.
-fn factor_columns(matrix: &mut [f64], work: &mut [f64], n: usize) -> Verdict
+fn factor_columns(matrix: &mut [f64], work: &mut [f64], n: usize) -> Judgement
     requires { ⌜ (n ≤ maxOrder) × (length (now matrix) ≡ triangle n) × (length (now work) ≡ n) ⌝ }
     ensures { λ r. ⌜ Factored n (now (matrix .entry)) r (now (matrix .exit)) ⌝ }
 {
+    let mut judged = Judgement {
+        verdict: calls::refusal(0, 0),
+        exact: true,
+    };
     let mut top = n;
     let mut j = 0;
     while j < n {
         let next = next_top(n, j, top);
-        let result = factor_column(matrix, work, n, j, top, next);
-        if !calls::accepted(result) {
-            return result;
+        let column = factor_column(matrix, work, n, j, top, next);
+        let joined = calls::joined(judged, column);
+        let verdict = joined.verdict;
+        if !calls::accepted(verdict) {
+            return joined;
         }
+        judged = joined;
         top = next;
         j += 1;
     }
-    calls::refusal(0, 0)
+    judged
 }
 
 // All columns, with the work memory cleared afterwards.
-fn factor_cleared(matrix: &mut [f64], work: &mut [f64], n: usize) -> Verdict
+fn factor_cleared(matrix: &mut [f64], work: &mut [f64], n: usize) -> Judgement
     requires { ⌜ (n ≤ maxOrder) × (length (now matrix) ≡ triangle n) × (length (now work) ≡ n) ⌝ }
     ensures { λ r. ⌜ Factored n (now (matrix .entry)) r (now (matrix .exit)) ⌝ }
     ensures { λ _. ⌜ now (work .exit) ≡ replicate n zero64 ⌝ }
 {
-    let result = factor_columns(matrix, work, n);
+    let judged = factor_columns(matrix, work, n);
     checks::clear(work);
-    result
+    judged
 }
 
 // The plain factor of packed memory.
@@ -473,5 +481,5 @@ pub fn factor(shape: Shape, matrix: &mut [f64], work: &mut [f64]) -> CallResult
         return calls::result(checks);
     }
     let n = shape.order;
-    calls::result(factor_cleared(matrix, &mut work[..n], n))
+    calls::judged_result(factor_cleared(matrix, &mut work[..n], n))
 }

@@ -12,10 +12,10 @@ use borrow.Author.Needs.{needs}
 use Rattle.binary64.specs.declared.kinds.Kind.{Kind}
 use Rattle.binary64.specs.declared.kinds.Kind.the-variants.{Zero, Subnormal, Normal, Infinite, NaN}
 use Rattle.binary64.specs.Kinds.{kind, finiteKind, finite, positive}
-use Rattle.binary64.specs.Root.{rootBits, rootBy, root}
+use Rattle.binary64.specs.Root.{rootBits, rootBy, root, squares, exact}
 use Rattle.binary64.specs.RootSteps.{PositiveFinite}
 use Rattle.binary64.proofs.Values.{nan-of-kind, number-of-kind, pattern-number}
-use Rattle.binary64.proofs.RootLaws.{root-is, positive-pattern, root-below}
+use Rattle.binary64.proofs.RootLaws.{root-is, positive-pattern, root-below, exact-bits, inexact-below, inexact-infinite, inexact-zero}
 use Rattle.binary64.proofs.kinds.Kind.{the-type}
 use Rattle.binary64.proofs.square_root.Statement.{statement}
 use Rattle.binary64.proofs.square_root.Tie as tie
@@ -39,6 +39,10 @@ second-arm NaN h = absurd (miss (1 ∷ 2 ∷ []) 4 tt h)
 -- ---- a zero, an infinity, a NaN
 
 module _ (x : Float) where
+  infinite-exact : kind x ≡ Infinite → false ≡ exact x
+  unfolding finite
+  infinite-exact e = sym (inexact-infinite x (ap finiteKind e))
+
   infinite-root : kind x ≡ Infinite → positive x ≡ true → x ≡ root x
   unfolding root
   infinite-root e a = rw (e, a) refl
@@ -47,10 +51,10 @@ module _ (x : Float) where
   unfolding root
   infinite-below e a = rw (e, a) refl
 
-  itself : T (fits binary64 x) → (kind x ≡ Zero) ⊎ (kind x ≡ NaN) → x ≡ root x
-  unfolding root
-  itself f (inl e) = rw e refl
-  itself f (inr e) = rw e (nan-of-kind x f e)
+  itself : T (fits binary64 x) → (kind x ≡ Zero) ⊎ (kind x ≡ NaN) → (x ≡ root x) × (false ≡ exact x)
+  unfolding root finite
+  itself f (inl e) = (rw e refl, sym (inexact-zero x f e))
+  itself f (inr e) = (rw e (nan-of-kind x f e), sym (inexact-infinite x (ap finiteKind e)))
 
 -- ---- a subnormal or normal value
 
@@ -59,9 +63,9 @@ either P κ s n (inl e) = subst P (sym e) s
 either P κ s n (inr e) = subst P (sym e) n
 
 module _ (x : Float) (k : (kind x ≡ Subnormal) ⊎ (kind x ≡ Normal)) where
-  below-root : positive x ≡ false → nan ≡ root x
+  below-root : positive x ≡ false → (nan ≡ root x) × (false ≡ exact x)
   unfolding root
-  below-root a = rw a (either (λ κ. nan ≡ rootBy κ false x) (kind x) refl refl k)
+  below-root a = (rw a (either (λ κ. nan ≡ rootBy κ false x) (kind x) refl refl k), sym (inexact-below x a))
 
   finite-value : T (finite x)
   unfolding finite
@@ -77,6 +81,9 @@ module _ (x : Float) (k : (kind x ≡ Subnormal) ⊎ (kind x ≡ Normal)) where
 
     rooted : root x ≡ ofBits binary64 (rootBits (toBits binary64 x))
     rooted = root-is x f finite-value a
+
+    exactly : exact x ≡ squares (rootBits (toBits binary64 x)) (toBits binary64 x)
+    exactly = exact-bits x f finite-value a
 
     root-number : (b : ℕ) → b ≡ rootBits (toBits binary64 x) → T (not (nanBits binary64 b))
     root-number b e = pattern-number b (subst (λ (y : ℕ). y < 2047 * 2 ^ 52) (sym e) (root-below x f finite-value a))
@@ -105,11 +112,11 @@ float-to-bits-root-of-bits c = not-nan (c .before .before .before .args .x) (sec
 root-of-bits-requires : tie.Need-root-of-bits-requires
 root-of-bits-requires c κs = rootable (c .before .before .before .args .x) (second-kind (c .before)) (is-true (c .before .before .before .good .0 .1)) (is-above c)
 
-float-from-bits-result : tie.Need-float-from-bits-result
-float-from-bits-result c =
-    let start = c .before .before .before .before .before in
-    root-number (start .args .x) (second-kind (c .before .before .before)) (is-true (start .good .0 .1)) (is-above (c .before .before))
-    (c .before .root-of-bits .result .bits) (c .before .root-of-bits .ensures .bits)
+float-from-bits-t13 : tie.Need-float-from-bits-t13
+float-from-bits-t13 c =
+    let start = c .before .before .before .before in
+    root-number (start .args .x) (second-kind (c .before .before)) (is-true (start .good .0 .1)) (is-above (c .before))
+    (c .root-of-bits .result .bits) (c .root-of-bits .ensures .bits)
 
 enum-told : tie.Need-enum-told
 enum-told c = search needs
@@ -121,9 +128,13 @@ returns c =
 
 returns-2 : tie.Need-returns-2
 returns-2 c =
-    let start = c .before .before .before .before .before in
-    ap (ofBits binary64) (c .before .root-of-bits .ensures .bits)
-    ∙ sym (rooted (start .args .x) (second-kind (c .before .before .before)) (is-true (start .good .0 .1)) (is-above (c .before .before)))
+    let start = c .before .before .before .before in
+    let kinds = second-kind (c .before .before) in
+    let holds = is-true (start .good .0 .1) in
+    let found = c .root-of-bits .ensures in (
+      ap (ofBits binary64) (found .bits) ∙ sym (rooted (start .args .x) kinds holds (is-above (c .before))),
+      found .exactly ∙ sym (exactly (start .args .x) kinds holds (is-above (c .before))),
+    )
 
 returns-3 : tie.Need-returns-3
 unfolding ofBits div positive
@@ -131,11 +142,15 @@ returns-3 c = below-root (c .before .before .before .args .x) (second-kind (c .b
 
 returns-4 : tie.Need-returns-4
 unfolding ofBits positive
-returns-4 c = infinite-root (c .before .before .before .before .args .x) (third-kind (c .before)) (c .if2 .taken)
+returns-4 c =
+    let x = c .before .before .before .before .args .x in
+    (infinite-root x (third-kind (c .before)) (c .if2 .taken), infinite-exact x (third-kind (c .before)))
 
 returns-5 : tie.Need-returns-5
 unfolding ofBits div positive
-returns-5 c = infinite-below (c .before .before .before .before .args .x) (third-kind (c .before)) (c .if2 .left)
+returns-5 c =
+    let x = c .before .before .before .before .args .x in
+    (infinite-below x (third-kind (c .before)) (c .if2 .left), infinite-exact x (third-kind (c .before)))
 
 pub square-root-spec : {M : Type 1} → statement M
 square-root-spec =
@@ -144,7 +159,7 @@ square-root-spec =
     kind-of-requires
     float-to-bits-root-of-bits
     root-of-bits-requires
-    float-from-bits-result
+    float-from-bits-t13
     enum-told
     returns
     returns-2

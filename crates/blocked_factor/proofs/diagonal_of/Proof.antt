@@ -16,7 +16,7 @@ returns : tie.Need-returns
 returns c = search needs
 
 returns-2 : tie.Need-returns-2
-returns-2 c = rw (c .before .before .pivot2 .given .1) (c .square-root .ensures)
+returns-2 c = rw (c .before .before .pivot2 .given .1) (c .square-root .ensures .0)
 
 pub diagonal-of-spec : {M : Type 1} → statement M
 diagonal-of-spec =

@@ -79,8 +79,8 @@ factor-blocks-cleared-requires c κs =
     blocks-sized (a .shape .order) (a .shape .block) (a .matrix .now) (a .work .now) (checks .result) (checks .ensures) (passed (c .before .before .before))
     (c .before .before .block-work .result) (c .before .before .block-work .ensures) (c .before .before .before .before .before .before .before .if1 .left)
 
-result-requires-2 : tie.Need-result-requires-2
-result-requires-2 c κs = search needs
+judged-result-requires : tie.Need-judged-result-requires
+judged-result-requires c κs = search needs
 
 same-length-4 : tie.Need-same-length-4
 same-length-4 c = search needs
@@ -93,7 +93,7 @@ returns-3 c =
     let a = c .before .before .before .before .before .before .before .before .before .before .before .before .before .before .before .before .before .args in
     let checks = c .before .before .before .before .before .before .before .before .before .before .before .check-factor in
     let done = c .before .before .before .before .before .factor-blocks-cleared in
-    rw (c .result2 .ensures, done .ensures .1)
+    rw (c .judged-result .ensures, done .ensures .1)
     (blocks-done (a .shape .order) (a .shape .block) (a .matrix .now) (a .work .now) (checks .result) (checks .ensures)
     (passed (c .before .before .before .before .before .before .before .before .before)) (c .before .before .before .before .before .before .before .before .block-work .result) (c .before .before .before .before .before .before .before .before .block-work .ensures) (done .result)
     (done .last .0) (done .ensures .0))
@@ -115,7 +115,7 @@ factor-spec =
     slice-relend-prefix-factor-blocks-cleared
     slice-aggregate-factor-blocks-cleared
     factor-blocks-cleared-requires
-    result-requires-2
+    judged-result-requires
     same-length-4
     same-length-5
     returns-3)

@@ -19,7 +19,7 @@ same-length-2 c = search needs
 returns : tie.Need-returns
 returns c =
     let a = c .before .before .before .before .before .before .before .before .before .before .before .args in
-    block-column-factored (a .c) (a .width) (a .rows) (a .part .now) _ (c .before .before .before .before .before .before .factor-panels .result) (c .judge-block .result) (c .before .before .before .before .before .before .factor-panels .ensures)
+    block-column-factored (a .c) (a .width) (a .rows) (a .part .now) _ (a .before) (c .before .before .before .before .before .before .factor-panels .result) (c .judge-block .result) (c .before .before .before .before .before .before .factor-panels .ensures)
     (c .judge-block .ensures)
 
 pub factor-block-spec : {M : Type 1} → statement M

@@ -4,23 +4,19 @@ use Prim.Native.Nat.{_-_, _≤_}
 use native.Mathlib.Omega.{arith}
 use mathlib.Core.Path.{_≡_, refl, _∙_}
 use lib.ListN.{length}
-use Rattle.calls.specs.Refusals.{success}
 use Rattle.blocked_factor.specs.BlockStages.{ColumnsFinished}
 use Rattle.blocked_factor.proofs.Finishing.{columns-none, columns-join}
 use Rattle.blocked_factor.proofs.factor_panels.Statement.{statement}
 use Rattle.blocked_factor.proofs.factor_panels.Tie as tie
 
 abbrev Inv-loop : tie.InvT-loop
-Inv-loop part₀ spare₀ c width rows verdict₀ s0₀ part spare verdict s0 = (s0 ≤ width) × (length spare ≡ length spare₀) × ColumnsFinished c width rows 0 s0 success part₀ verdict part
+Inv-loop part₀ spare₀ c width rows judged₀ s0₀ part spare judged s0 = (s0 ≤ width) × (length spare ≡ length spare₀) × ColumnsFinished c width rows 0 s0 judged₀ part₀ judged part
 
 abbrev μ-loop : tie.MeasureT-loop
-μ-loop part₀ spare₀ c width rows verdict₀ s0₀ part spare verdict s0 = width - s0
-
-refusal-requires : tie.Need-refusal-requires Inv-loop μ-loop
-refusal-requires c κs = tt
+μ-loop part₀ spare₀ c width rows judged₀ s0₀ part spare judged s0 = width - s0
 
 loop-holds : tie.Need-loop-holds Inv-loop μ-loop
-loop-holds c = (omega arith, refl, rw (c .refusal .ensures) (columns-none _ _ _ _ _ _))
+loop-holds c = (omega arith, refl, columns-none _ _ _ _ _ _)
 
 sub-least : tie.Need-sub-least Inv-loop μ-loop
 sub-least c = omega (arith, c .loop-test .taken)
@@ -29,10 +25,10 @@ least-requires : tie.Need-least-requires Inv-loop μ-loop
 least-requires c κs = tt
 
 factor-panel-requires : tie.Need-factor-panel-requires Inv-loop μ-loop
-factor-panel-requires c κs = (omega (arith, c .before .before .before .before .before .before .before .before .pre, c .before .before .least .ensures, c .before .before .before .loop-test .taken, c .before .before .before .before .loop .inv .2 .kept), omega (arith, c .before .before .least .ensures))
+factor-panel-requires c κs = (omega (arith, c .before .before .before .before .before .before .before .pre, c .before .before .least .ensures, c .before .before .before .loop-test .taken, c .before .before .before .before .loop .inv .2 .kept), omega (arith, c .before .before .least .ensures))
 
 add-s0 : tie.Need-add-s0 Inv-loop μ-loop
-add-s0 c = omega (arith, c .before .before .before .before .before .before .before .before .before .before .before .before .before .pre, c .before .before .before .before .before .before .before .least .ensures, c .before .before .before .before .before .before .before .before .loop-test .taken)
+add-s0 c = omega (arith, c .before .before .before .before .before .before .before .before .before .before .before .before .pre, c .before .before .before .before .before .before .before .least .ensures, c .before .before .before .before .before .before .before .before .loop-test .taken)
 
 loop-less : tie.Need-loop-less Inv-loop μ-loop
 loop-less c = omega (arith, c .before .before .before .before .before .before .before .least .ensures, c .before .before .before .before .before .before .before .before .loop-test .taken)
@@ -53,7 +49,7 @@ same-length-2 c = c .before .loop .inv .1
 
 returns : tie.Need-returns Inv-loop μ-loop
 returns c =
-    let all-columns : c .before .loop .s0 ≡ c .before .before .before .before .before .args .width = omega (arith, c .loop-test .left, c .before .loop .inv .0) in
+    let all-columns : c .before .loop .s0 ≡ c .before .before .before .before .args .width = omega (arith, c .loop-test .left, c .before .loop .inv .0) in
     rw all-columns at (c .before .loop .inv .2)
 
 pub factor-panels-spec : {M : Type 1} → statement M
@@ -62,7 +58,6 @@ factor-panels-spec =
     (tie.spec
     Inv-loop
     μ-loop
-    refusal-requires
     loop-holds
     sub-least
     least-requires

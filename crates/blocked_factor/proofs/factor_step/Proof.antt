@@ -101,7 +101,7 @@ accepted-requires c κs = search needs
 
 copy-part-requires-2 : tie.Need-copy-part-requires-2
 copy-part-requires-2 c κs =
-    let factored = c .before .before .before .before .before .before .before .before in
+    let factored = c .before .before .before .before .before .before .before .before .before in
     let saved = factored .before .before .before .before .before in
     omega (arith, places (saved .before .before .before), room saved, kept factored .size, factored .factor-part .ensures .kept)
 
@@ -114,11 +114,11 @@ same-length-2 c = search needs
 returns : tie.Need-returns
 returns c =
     let judged = c .before .before .before .before .before .before .accepted in
-    let factored = c .before .before .before .before .before .before .before .before .before .before .before in
+    let factored = c .before .before .before .before .before .before .before .before .before .before .before .before in
     let result = factored .factor-part in
     let saved = factored .before .before .before .before .before .copy-part in
     let placed = factored .before .before .before .before .before .before .before .before in
-    let refused = refused-of (judged .result) (result .result) (judged .ensures) (c .before .before .before .before .before .if1 .taken) in
+    let refused = refused-of (judged .result) (result .result .verdict) (judged .ensures) (c .before .before .before .before .before .if1 .taken) in
     done-refused (result .ensures)
     (places placed .0) (places placed .1) refused (saved .ensures) (kept factored) (c .before .before .copy-part2 .ensures)
 
@@ -131,8 +131,8 @@ same-length-4 c = search needs
 returns-2 : tie.Need-returns-2
 returns-2 c =
     let judged = c .before .accepted in
-    let result = c .before .before .before .before .before .before .factor-part in
-    let accepted = accepted-of (judged .result) (result .result) (judged .ensures) (c .if1 .left) in
+    let result = c .before .before .before .before .before .before .before .factor-part in
+    let accepted = accepted-of (judged .result) (result .result .verdict) (judged .ensures) (c .if1 .left) in
     done-accepted (result .ensures) accepted
 
 pub factor-step-spec : {M : Type 1} → statement M

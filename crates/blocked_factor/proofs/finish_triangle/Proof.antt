@@ -13,10 +13,10 @@ use Rattle.blocked_factor.proofs.finish_triangle.Statement.{statement}
 use Rattle.blocked_factor.proofs.finish_triangle.Tie as tie
 
 abbrev Inv-loop : tie.InvT-loop
-Inv-loop part₀ c width s0 e verdict₀ s₀ part verdict s = (s0 ≤ s) × (s ≤ e) × TriangleFinished c width s0 e s verdict₀ part₀ verdict part
+Inv-loop part₀ c width s0 e judged₀ s₀ part judged s = (s0 ≤ s) × (s ≤ e) × TriangleFinished c width s0 e s judged₀ part₀ judged part
 
 abbrev μ-loop : tie.MeasureT-loop
-μ-loop part₀ c width s0 e verdict₀ s₀ part verdict s = e - s
+μ-loop part₀ c width s0 e judged₀ s₀ part judged s = e - s
 
 loop-holds : tie.Need-loop-holds Inv-loop μ-loop
 loop-holds c = (le-refl _, omega (arith, c .before .pre), triangle-none _ _ _ _ _ _)

@@ -10,7 +10,7 @@ use Rattle.calls.specs.Refusals.{accepted}
 use Rattle.calls.proofs.Judging.{refused-of, accepted-of}
 use Rattle.blocked_factor.specs.BlockColumns.{rowStart}
 use Rattle.blocked_factor.proofs.BlockRows.{row-lt}
-use Rattle.blocked_factor.proofs.BlockVerdicts.{verdict-first, verdict-pivot, verdict-overflow}
+use Rattle.blocked_factor.proofs.BlockVerdicts.{judged-first, judged-pivot, judged-overflow}
 use borrow.Author.Needs.{needs}
 use Rattle.blocked_factor.proofs.judge_block.Statement.{statement}
 use Rattle.blocked_factor.proofs.judge_block.Tie as tie
@@ -39,7 +39,7 @@ returns : tie.Need-returns
 returns c =
     λ n a order stage before e.
     let args = c .before .before .before .args in
-    verdict-first n a (args .c) (args .width) (args .rows) (args .part .now) order (omega (arith, c .before .before .before .pre)) stage before (c .before .lowest-overflow .result)
+    judged-first n a (args .c) (args .width) (args .rows) (args .part .now) order (omega (arith, c .before .before .before .pre)) stage before (c .before .lowest-overflow .result)
     (c .before .lowest-overflow .ensures) (args .first) e (c .if1 .taken)
 
 accepted-requires : tie.Need-accepted-requires
@@ -51,25 +51,27 @@ add-if3 c = search needs
 returns-2 : tie.Need-returns-2
 returns-2 c =
     λ n a order stage before e.
-    let args = c .before .before .before .before .before .before .before .args in
-    verdict-pivot n a (args .c) (args .width) (args .rows) (args .part .now) order (omega (arith, c .before .before .before .before .before .before .before .pre)) stage before (c .before .before .before .before .before .lowest-overflow .result)
-    (c .before .before .before .before .before .lowest-overflow .ensures) (args .first) e (narrow (c .before .before .before .before)) (refused-of _ (args .first) (c .before .before .before .accepted .ensures) (c .before .before .if2 .taken))
-    (c .if3 .taken)
+    let start = c .before .before .before .before .before .before .before .before in
+    let args = start .args in
+    let overflow = c .before .before .before .before .before .before .lowest-overflow in
+    judged-pivot n a (args .c) (args .width) (args .rows) (args .part .now) order (omega (arith, start .pre)) stage before (overflow .result) (overflow .ensures)
+    (args .first) e (narrow (c .before .before .before .before .before))
+    (refused-of _ (args .first .verdict) (c .before .before .before .accepted .ensures) (c .before .before .if2 .taken)) (c .if3 .taken)
 
 place-in-block-requires : tie.Need-place-in-block-requires
 place-in-block-requires c κs = search needs
 
 add-p : tie.Need-add-p
-add-p c = omega (arith, c .place-in-block .ensures, room (c .before .before .before))
+add-p c = omega (arith, c .place-in-block .ensures, room (c .before .before .before .before))
 
 add-judge-column : tie.Need-add-judge-column
 add-judge-column c = search needs
 
-mul-t13 : tie.Need-mul-t13
-mul-t13 c = omega (arith, c .place-in-block .ensures, room (c .before .before .before))
+mul-t14 : tie.Need-mul-t14
+mul-t14 c = omega (arith, c .place-in-block .ensures, room (c .before .before .before .before))
 
-shared-slice-read-t15 : tie.Need-shared-slice-read-t15
-shared-slice-read-t15 c = omega (arith, c .before .place-in-block .ensures, room (c .before .before .before .before))
+shared-slice-read-t16 : tie.Need-shared-slice-read-t16
+shared-slice-read-t16 c = omega (arith, c .before .place-in-block .ensures, room (c .before .before .before .before .before))
 
 judge-column-requires : tie.Need-judge-column-requires
 judge-column-requires c κs = search needs
@@ -77,15 +79,18 @@ judge-column-requires c κs = search needs
 returns-3 : tie.Need-returns-3
 returns-3 c =
     λ n a order stage before e.
-    let args = c .before .before .before .before .before .before .before .before .args in
+    let start = c .before .before .before .before .before .before .before .before .before in
+    let args = start .args in
+    let overflow = c .before .before .before .before .before .before .before .lowest-overflow in
     let accept = c .before .before .before .before .accepted in
-    let decided : (accepted (args .first) ≡ true) ⊎ ((accepted (args .first) ≡ false) × (args .c + c .before .before .before .before .before .before .lowest-overflow .result < args .first .place)) =
-    ⊎-elim (λ w. inr (refused-of (accept .result) (args .first) (accept .ensures) (w .0 .taken), w .2 .left))
-    (λ w. inl (accepted-of (accept .result) (args .first) (accept .ensures) (w .left))) (c .before .before .before .if2 .came)
+    let first = args .first .verdict in
+    let decided : (accepted first ≡ true) ⊎ ((accepted first ≡ false) × (args .c + overflow .result < first .place)) =
+    ⊎-elim (λ w. inr (refused-of (accept .result) first (accept .ensures) (w .0 .taken), w .2 .left))
+    (λ w. inl (accepted-of (accept .result) first (accept .ensures) (w .left))) (c .before .before .before .if2 .came)
     in
-    (rw (c .before .before .place-in-block .ensures) at (c .judge-column .ensures))
-    ∙ verdict-overflow n a (args .c) (args .width) (args .rows) (args .part .now) order (omega (arith, c .before .before .before .before .before .before .before .before .pre)) stage before (c .before .before .before .before .before .before .lowest-overflow .result)
-    (c .before .before .before .before .before .before .lowest-overflow .ensures) (args .first) e (narrow (c .before .before .before .before .before)) decided
+    c .judge-column .ensures
+    ∙ judged-overflow n a (args .c) (args .width) (args .rows) (args .part .now) order (omega (arith, start .pre)) stage before (overflow .result)
+    (overflow .ensures) (args .first) e (narrow (c .before .before .before .before .before .before)) decided _ (args .first .exact)
 
 pub judge-block-spec : {M : Type 1} → statement M
 judge-block-spec =
@@ -99,7 +104,7 @@ judge-block-spec =
     place-in-block-requires
     add-p
     add-judge-column
-    mul-t13
-    shared-slice-read-t15
+    mul-t14
+    shared-slice-read-t16
     judge-column-requires
     returns-3)

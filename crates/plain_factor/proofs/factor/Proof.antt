@@ -52,8 +52,8 @@ factor-cleared-requires c κs =
     let sizes = passed (c .before .before) .sizes in
     (sizes .order, sizes .matrix, length-take-le _ _ (sizes .work))
 
-result-requires-2 : tie.Need-result-requires-2
-result-requires-2 c κs = search needs
+judged-result-requires : tie.Need-judged-result-requires
+judged-result-requires c κs = search needs
 
 same-length-2 : tie.Need-same-length-2
 same-length-2 c = search needs
@@ -68,7 +68,7 @@ returns-2 c =
     let check-factor = c .before .before .before .before .before .before .before .before .before .before .check-factor in
     let accepted = c .before .before .before .before .before .before .before .before .before .accepted in
     let if1 = c .before .before .before .before .before .before .before .before .if1 in
-    rw (c .result2 .ensures, factor-cleared .ensures .1)
+    rw (c .judged-result .ensures, factor-cleared .ensures .1)
     (columns-done (a .shape .order) (a .shape .block) (a .matrix .now) (a .work .now) (factor-cleared .result) (check-factor .result)
     (factor-cleared .last .0) (check-factor .ensures)
     (accepted-of (accepted .result) (check-factor .result) (accepted .ensures) (if1 .left)) (factor-cleared .ensures .0))
@@ -85,7 +85,7 @@ factor-spec =
     slice-relend-prefix-factor-cleared
     slice-aggregate-factor-cleared
     factor-cleared-requires
-    result-requires-2
+    judged-result-requires
     same-length-2
     same-length-3
     returns-2)

@@ -58,7 +58,7 @@ store-column-requires c κs = search needs
 judged : {m : List Float} (c : tie.After-judge-column2)
     → let a = c .before .before .before .before .before .before .before .before .before .before .before .before .args in
     let written = storeColumn (packedPlace (a .n)) (a .j) (drop (a .j) (c .before .before .before .divide-rows .last .0)) (a .matrix .now) in
-    m ≡ cond (accepted (c .judge-column2 .result)) written (a .matrix .now)
+    m ≡ cond (accepted (c .judge-column2 .result .verdict)) written (a .matrix .now)
     → Judged (a .n) (a .j) (a .matrix .now) (c .judge-column2 .result) m
 judged c stored =
     let judge = c .before .before .before .before .before .before .before .before in
@@ -66,7 +66,7 @@ judged c stored =
     let pre = judge .before .before .before .before .pre in
     let root = c .before .before .before .before .before .before .pivot .given in
     let divided = c .before .before .before .divide-rows in
-    column-judged (a .n) (a .j) (a .matrix .now) (a .work .now) (pre .0) (pre .1 .0) (pre .1 .1) (root .0 .0) (divided .last .0) (divided .result)
+    column-judged (a .n) (a .j) (a .matrix .now) (a .work .now) (pre .0) (pre .1 .0) (pre .1 .1) (root .0 .0) (root .0 .1 .0) (divided .last .0) (divided .result)
     (sym (root .1) ∙ judge .judge .ensures) (divided .kept .0 ∙ pre .1 .0) (divided .ensures) (c .judge-column2 .ensures) stored
 
 same-length : tie.Need-same-length
@@ -77,7 +77,7 @@ same-length-2 c = search needs
 
 returns-2 : tie.Need-returns-2
 returns-2 c =
-    let verdict = c .before .before .before .before .before .before .before in
+    let verdict = c .before .before .before .before .before .before .before .before in
     let yes = sym (c .before .before .before .before .before .before .accepted .ensures) ∙ c .before .before .before .before .before .if1 .taken in
     (judged verdict (rw yes (c .before .before .store-column .ensures)), verdict .before .before .before .divide-rows .ensures .before)
 
@@ -86,7 +86,7 @@ same-length-3 c = search needs
 
 returns-3 : tie.Need-returns-3
 returns-3 c =
-    let verdict = c .before .before in
+    let verdict = c .before .before .before in
     let no = sym (c .before .accepted .ensures) ∙ c .if1 .left in
     (judged verdict (rw no), verdict .before .before .before .divide-rows .ensures .before)
 

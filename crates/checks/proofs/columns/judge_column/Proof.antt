@@ -10,8 +10,8 @@ use Rattle.checks.proofs.columns.judge_column.Tie as tie
 enum-known-pivot : tie.Need-enum-known-pivot
 enum-known-pivot c = search needs
 
-enum-told : tie.Need-enum-told
-enum-told c = search needs
+enum-known-pivot-2 : tie.Need-enum-known-pivot-2
+enum-known-pivot-2 c = search needs
 
 refusal-requires : tie.Need-refusal-requires
 refusal-requires c κs = search needs
@@ -19,8 +19,8 @@ refusal-requires c κs = search needs
 returns : tie.Need-returns
 unfolding columnRules firstRefusal rule11
 returns c =
-    let e : c .before .before .before .before .args .finite ≡ false = not-true _ (c .before .if1 .taken) in
-    rw (c .before .before .enum-told .given .1, e) (c .refusal .ensures)
+    let e : c .before .before .before .before .before .args .finite ≡ false = not-true _ (c .before .if1 .taken) in
+    rw (c .before .before .before .pivot2 .given .1, e, c .refusal .ensures)
 
 refusal-requires-2 : tie.Need-refusal-requires-2
 refusal-requires-2 c κs = search needs
@@ -32,15 +32,15 @@ returns-2 c = rw (c .before .pivot .given .1)
 returns-3 : tie.Need-returns-3
 unfolding columnRules firstRefusal rule11
 returns-3 c =
-    let e : c .before .before .before .before .args .finite ≡ true = not-false _ (c .before .if1 .left) in
-    rw (c .before .before .enum-told .given .1, e) (c .refusal2 .ensures)
+    let e : c .before .before .before .before .before .args .finite ≡ true = not-false _ (c .before .if1 .left) in
+    rw (c .before .before .before .pivot2 .given .1, e, c .refusal2 .ensures)
 
 pub judge-column-spec : {M : Type 1} → statement M
 judge-column-spec =
     tie.close
     (tie.spec
     enum-known-pivot
-    enum-told
+    enum-known-pivot-2
     refusal-requires
     returns
     refusal-requires-2
