@@ -44,8 +44,9 @@ pub fn square_root(x: f64) -> SquareRoot
         Kind::Subnormal | Kind::Normal => {
             if x > 0.0 {
                 let found = root::root_of_bits(f64::to_bits(x));
+                let value = f64::from_bits(found.bits);
                 SquareRoot {
-                    value: f64::from_bits(found.bits),
+                    value,
                     exact: found.exact,
                 }
             } else {

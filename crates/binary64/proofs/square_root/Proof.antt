@@ -112,8 +112,8 @@ float-to-bits-root-of-bits c = not-nan (c .before .before .before .args .x) (sec
 root-of-bits-requires : tie.Need-root-of-bits-requires
 root-of-bits-requires c κs = rootable (c .before .before .before .args .x) (second-kind (c .before)) (is-true (c .before .before .before .good .0 .1)) (is-above c)
 
-float-from-bits-t13 : tie.Need-float-from-bits-t13
-float-from-bits-t13 c =
+float-from-bits-value : tie.Need-float-from-bits-value
+float-from-bits-value c =
     let start = c .before .before .before .before in
     root-number (start .args .x) (second-kind (c .before .before)) (is-true (start .good .0 .1)) (is-above (c .before))
     (c .root-of-bits .result .bits) (c .root-of-bits .ensures .bits)
@@ -159,7 +159,7 @@ square-root-spec =
     kind-of-requires
     float-to-bits-root-of-bits
     root-of-bits-requires
-    float-from-bits-t13
+    float-from-bits-value
     enum-told
     returns
     returns-2
