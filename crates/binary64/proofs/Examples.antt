@@ -7,7 +7,7 @@ use lib.Ieee.{binary64, ofBits, toBits, lt}
 use Rattle.binary64.specs.declared.kinds.Kind.{Kind}
 use Rattle.binary64.specs.declared.kinds.Kind.the-variants.{Zero, Subnormal, Normal, Infinite, NaN}
 use Rattle.binary64.specs.Kinds.{kindOfBits, kind, finite, kindNumber}
-use Rattle.binary64.specs.Root.{root, squares, exact}
+use Rattle.binary64.specs.Root.{root, squaresTo, exact}
 
 -- a pattern and its kind with that kind's number; its value has the same kind
 hasKind : ℕ → Kind → ℕ → Bool
@@ -73,5 +73,5 @@ allRight [] = true
 allRight (r ∷ rs) = r && allRight rs
 
 pub examples-hold : T (allRight rows)
-unfolding rows root squares exact kindOfBits kind finite ofBits toBits lt
+unfolding rows root squaresTo exact kindOfBits kind finite ofBits toBits lt
 examples-hold = tt

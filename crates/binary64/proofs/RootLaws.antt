@@ -15,7 +15,7 @@ use lib.Ieee.Positive.{first-pos}
 use Rattle.binary64.specs.declared.kinds.Kind.{Kind}
 use Rattle.binary64.specs.declared.kinds.Kind.the-variants.{Zero, Subnormal, Normal}
 use Rattle.binary64.specs.Kinds.{kind, finiteKind, finite, positive}
-use Rattle.binary64.specs.Root.{magnitude, MidpointRule, rootBits, rootBy, root, squares, exact}
+use Rattle.binary64.specs.Root.{magnitude, MidpointRule, rootBits, rootBy, root, squaresTo, exact}
 use Rattle.binary64.specs.RootSteps.{PositiveFinite}
 use Rattle.binary64.proofs.Midpoints.{root-range, root-rule}
 use Rattle.binary64.proofs.Values.{Value, zero-value, subnormal-value, normal-value, value-case, finite-library, library-finite, library-of-value, pattern-value, pattern-number, bits-range}
@@ -50,7 +50,7 @@ pub root-is : (x : Float) → T (fits binary64 x) → T (finite x) → T (positi
 unfolding root
 root-is x f g h = rooted (kind x) (positive x) x (positive-kind x (kind x) (value-case x f) (positive-finite x g h)) (is-true (positive x) h)
 
-pub exact-is : (x : Float) → T (finite x) → T (positive x) → exact x ≡ squares (toBits binary64 (root x)) (toBits binary64 x)
+pub exact-is : (x : Float) → T (finite x) → T (positive x) → exact x ≡ squaresTo (toBits binary64 (root x)) (toBits binary64 x)
 unfolding exact
 exact-is x g h = rw (is-true (positive x) h, is-true (finite x) g) refl
 
@@ -84,8 +84,8 @@ module _ (x : Float) (f : T (fits binary64 x)) (g : T (finite x)) (h : T (positi
       ∙ toBits-ofBits binary64 (rootBits (toBits binary64 x)) (omega arith)
       (subst (λ (b : Bool). T (not b)) (nanBits-is binary64 (rootBits (toBits binary64 x))) (pattern-number (rootBits (toBits binary64 x)) below))
 
-  pub exact-bits : exact x ≡ squares (rootBits (toBits binary64 x)) (toBits binary64 x)
-  exact-bits = exact-is x g h ∙ ap (λ (r : ℕ). squares r (toBits binary64 x)) root-bits
+  pub exact-bits : exact x ≡ squaresTo (rootBits (toBits binary64 x)) (toBits binary64 x)
+  exact-bits = exact-is x g h ∙ ap (λ (r : ℕ). squaresTo r (toBits binary64 x)) root-bits
 
   pub root-midpoints : MidpointRule (toBits binary64 x) (toBits binary64 (root x))
   root-midpoints = subst (λ (y : ℕ). MidpointRule (toBits binary64 x) y) (sym root-bits) (root-rule (toBits binary64 x) positive-pattern)
@@ -101,7 +101,7 @@ module _ (x : Float) where
   unfolding exact
   inexact-infinite e = go (positive x)
     where
-      go : (b : Bool) → b && (finite x && squares (toBits binary64 (root x)) (toBits binary64 x)) ≡ false
+      go : (b : Bool) → b && (finite x && squaresTo (toBits binary64 (root x)) (toBits binary64 x)) ≡ false
       go true = rw e refl
       go false = refl
 

@@ -8,7 +8,7 @@ use native.Mathlib.Omega.{arith}
 use lib.Dec.{eqb, lit≤}
 use lib.Pow.{pow-pos, pow-add}
 use borrow.Author.Tests.{eq-eqb, ne-eqb}
-use Rattle.binary64.specs.Root.{magnitude, lowerMidpoint, upperMidpoint, scaled, MidpointRule, rootBits, squares}
+use Rattle.binary64.specs.Root.{magnitude, lowerMidpoint, upperMidpoint, scaled, MidpointRule, rootBits, squaresTo}
 use Rattle.binary64.specs.RootSteps.{Normalised, IntegerRoot, RootFound}
 use Rattle.binary64.proofs.Magnitudes.{magnitude-is, magnitude-before-power}
 use Rattle.binary64.proofs.Bisection.{pow-two, root-unique}
@@ -177,8 +177,8 @@ module _ (p s x q t : ℕ) (n : Normalised p s x) (w : IntegerRoot (radicand s x
       ∙ ap (λ (y : ℕ). y ^ 2) (sym (mul-assoc 2 (halfUp q) (2 ^ rootExponent x)))
       ∙ square-mul (2 * halfUp q) (2 ^ rootExponent x)
 
-  rounded-exact : eqb t 0 ≡ squares (rounded q x) p
-  unfolding squares
+  rounded-exact : eqb t 0 ≡ squaresTo (rounded q x) p
+  unfolding squaresTo
   rounded-exact =
       let u : ℕ = 2 ^ rootExponent x * 2 ^ rootExponent x in
       let u-pos : 0 < u = mul-pos (pow-pos (rootExponent x)) (pow-pos (rootExponent x)) in
@@ -198,5 +198,5 @@ module _ (p s x q t : ℕ) (n : Normalised p s x) (w : IntegerRoot (radicand s x
   rounded-found h =
       record {
         bits = rounded-root h;
-        exactly = rounded-exact ∙ ap (λ (y : ℕ). squares y p) (rounded-root h);
+        exactly = rounded-exact ∙ ap (λ (y : ℕ). squaresTo y p) (rounded-root h);
       }

@@ -65,10 +65,10 @@ unfolding rootBy positive
 root x = rootBy (kind x) (positive x) x
 
 -- the square of pattern r's value is pattern p's value, as whole numbers on the scale of `scaled`: nothing is rounded
-unfoldable pub squares : ℕ → ℕ → Bool
+unfoldable pub squaresTo : ℕ → ℕ → Bool
 unfolding magnitude scaled
-squares r p = eqb ((2 * magnitude r) ^ 2) (scaled p)
+squaresTo r p = eqb ((2 * magnitude r) ^ 2) (scaled p)
 
 -- Whether the root's square is the argument exactly. The values that document 01 gives no root, those not finite or not above zero, answer no.
 unfoldable pub exact : Float → Bool
-exact x = positive x && (finite x && squares (toBits binary64 (root x)) (toBits binary64 x))
+exact x = positive x && (finite x && squaresTo (toBits binary64 (root x)) (toBits binary64 x))

@@ -5,7 +5,7 @@ use mathlib.Core.Logic.{_⊎_}
 use mathlib.Core.Bool.{Bool}
 use Rattle.binary64.specs.declared.kinds.Kind.the-variants.{Subnormal, Normal}
 use Rattle.binary64.specs.Kinds.{kindOfBits}
-use Rattle.binary64.specs.Root.{scaled, squares, rootBits}
+use Rattle.binary64.specs.Root.{scaled, squaresTo, rootBits}
 
 -- the pattern of a value above zero that is finite
 pub record PositiveFinite (p : ℕ) : Type 0 where
@@ -28,4 +28,4 @@ pub record IntegerRoot (n root remainder : ℕ) : Type 0 where
 -- the root's pattern, and whether its square is the argument exactly
 pub record RootFound (p root : ℕ) (exact : Bool) : Type 0 where
   pub bits : root ≡ rootBits p
-  pub exactly : exact ≡ squares (rootBits p) p
+  pub exactly : exact ≡ squaresTo (rootBits p) p

@@ -68,11 +68,11 @@ module _
       record {
         kept = done .kept ∙ before .kept;
         reached = λ a known. (
-              done .finished passed a (before .reached a known .0),
-              lowest-all (judgeColumn n a) (judge-success n a) (c + width n b c)
-                  (subst (λ (r : Judgement). T (accepted (r .verdict))) (found a known) (rw passed tt)),
-              found a known,
-            );
+          done .finished passed a (before .reached a known .0),
+          lowest-all (judgeColumn n a) (judge-success n a) (c + width n b c)
+              (subst (λ (r : Judgement). T (accepted (r .verdict))) (found a known) (rw passed tt)),
+          found a known,
+        );
       }
 
   pub blocks-refused : accepted (answer .verdict) ≡ false → BlocksDone n b m answer m₂

@@ -1,5 +1,5 @@
 -- The verdict of a finished block column, from the first refusal by a pivot and the lowest column with an overflow. Assumes nothing.
-use Prim.Native.Nat.{ℕ, zero, suc, _+_, _-_, _≤_, _<_}
+use Prim.Native.Nat.{ℕ, suc, _+_, _-_, _≤_, _<_}
 use native.Mathlib.Nat.{add-zero}
 use native.Mathlib.Omega.{arith}
 use native.Mathlib.Decide.{decLt}
@@ -29,7 +29,7 @@ use Rattle.calls.proofs.Refusals.{Lowest, lowest-success, lowest-same, lowest-a
 use Rattle.calls.proofs.Judging.{lowest-found}
 use Rattle.calls.proofs.ColumnRules.{rules-success, rules-place, rules-pivot, rules-below, rules-root, rules-accepted}
 use Rattle.blocked_factor.specs.BlockColumns.{rowStart, columnFinite, LowestOverflow}
-use Rattle.blocked_factor.specs.BlockStages.{judgeColumn, judgePivot, exactColumn, columnsTo, pivotsTo, Stage, allRows, ColumnsFinished, BlockVerdict, BlockColumnFactored}
+use Rattle.blocked_factor.specs.BlockStages.{judgeColumn, judgePivot, exactColumn, columnsTo, pivotsTo, Stage, allRows, ColumnsFinished, BlockColumnJudged, BlockColumnFactored}
 use Rattle.blocked_factor.proofs.BlockRows.{row-lt}
 
 pub judge-success : (n : ℕ) (a : Triangle) (j : ℕ) → T (accepted (judgeColumn n a j)) → judgeColumn n a j ≡ success
@@ -246,7 +246,7 @@ module _
 -- ---- values, and then what the columns are judged to
 
 pub block-column-factored :
-    (c w h : ℕ) (m m′ : List Float) (before first answer : Judgement) → ColumnsFinished c w h 0 w before m first m′ → BlockVerdict c w h first m′ answer →
+    (c w h : ℕ) (m m′ : List Float) (before first answer : Judgement) → ColumnsFinished c w h 0 w before m first m′ → BlockColumnJudged c w h first m′ answer →
     BlockColumnFactored c w h before m answer m′
 block-column-factored c w h m m′ before first answer columns judged =
     record {

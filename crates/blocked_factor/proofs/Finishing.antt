@@ -1,6 +1,6 @@
 -- Finishing a panel of a block column: a column of some rows, the columns of some rows, a diagonal, the rows with the diagonals, the rows below them,
 -- and panels after one another. Assumes nothing.
-use Prim.Native.Nat.{ℕ, suc, _+_, _-_, _≤_, _<_}
+use Prim.Native.Nat.{ℕ, _+_, _-_, _≤_, _<_}
 use native.Mathlib.Nat.{le-refl}
 use native.Mathlib.Omega.{arith}
 use native.Mathlib.Decide.{decLt}

@@ -106,8 +106,8 @@ pub record ColumnsFinished (c w h from to : ℕ) (before : Judgement) (m : List 
       (n : ℕ) (a : Triangle) → c + h ≡ n → Stage n a c w from from (allRows from) m → before ≡ pivotsTo n a (c + from) → answer ≡ pivotsTo n a (c + to)
 
 -- A finished block column is judged, given what the columns up to its end are judged to by their pivots.
-abbrev pub BlockVerdict : ℕ → ℕ → ℕ → Judgement → List Float → Judgement → Type 0
-BlockVerdict c w h first m answer =
+abbrev pub BlockColumnJudged : ℕ → ℕ → ℕ → Judgement → List Float → Judgement → Type 0
+BlockColumnJudged c w h first m answer =
     (n : ℕ) (a : Triangle) → c + h ≡ n → Stage n a c w w w (allRows w) m → lowestRefusal (judgeColumn n a) c ≡ success →
     first ≡ pivotsTo n a (c + w) → answer ≡ columnsTo n a (c + w)
 

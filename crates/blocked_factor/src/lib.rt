@@ -7,7 +7,7 @@ ghost use Rattle.shape.specs.Bounds.{maxOrder};
 ghost use Rattle.shape.specs.Places.{blockWork};
 ghost use Rattle.calls.specs.Calls.{DoneAs, factorize};
 ghost use Rattle.blocked_factor.specs.BlockColumns.{rowStart, ColumnDivided, rootOf, columnFinite, LowestOverflow};
-ghost use Rattle.blocked_factor.specs.BlockStages.{RowsFinished, DiagonalFinished, TriangleFinished, BelowFinished, ColumnsFinished, BlockVerdict, BlockColumnFactored};
+ghost use Rattle.blocked_factor.specs.BlockStages.{RowsFinished, DiagonalFinished, TriangleFinished, BelowFinished, ColumnsFinished, BlockColumnJudged, BlockColumnFactored};
 ghost use Rattle.blocked_factor.specs.BlockSteps.{BlockAt, BlockFactored, BlockDone, Sized, BlocksDone};
 
 mod runs;
@@ -236,10 +236,10 @@ fn lowest_overflow(part: &[f64], width: usize, rows: usize) -> usize
     width
 }
 
-// A finished block column judged: a column with an overflow decides where no pivot refuses it or a column before it.
+// A finished block column judged: a column with an overflow decides where no pivot refuses it or a column before it, and whether its root is exact does not count.
 fn judge_block(part: &[f64], c: usize, width: usize, rows: usize, first: Judgement) -> Judgement
     requires { ⌜ (width ≤ rows) × (c + rows ≤ maxOrder) × (rowStart width rows ≤ length (now part)) ⌝ }
-    ensures { λ r. ⌜ BlockVerdict c width rows first (now (part .entry)) r ⌝ }
+    ensures { λ r. ⌜ BlockColumnJudged c width rows first (now (part .entry)) r ⌝ }
 {
     let s = lowest_overflow(part, width, rows);
     if s == width {
@@ -252,7 +252,7 @@ fn judge_block(part: &[f64], c: usize, width: usize, rows: usize, first: Judgeme
         }
     }
     let p = Shape::place_in_block(width, s, 0) + s;
-    checks::judge_column(c + s, Pivot::Root(part[p], first.exact), false)
+    checks::judge_column(c + s, Pivot::Root(part[p], false), false)
 }
 
 // The block column that begins with column c, from the memory's start on, less the products of the columns before c already: its values, and then what the

@@ -24,8 +24,8 @@ use Rattle.calls.specs.declared.Call.the-variants.{Rearranger, Factor, S
 use Rattle.calls.specs.Refusals.{neededWork, success, accepted, refusal, refuseIf, firstRefusal, lowestRefusal, columnVerdict, rule5, rule6, rule7, rule8, rule9}
 use Rattle.calls.specs.Calls.{Solved, resultOf, judgedResult, succeeded, clear, rearrange, moved, columnsVerdict, columnsJudged, finished, factored, factorize, solverChecks, rhsVerdict, solutions, solved, solve}
 use Rattle.calls.specs.Pipelines.{Ended, plainPipeline, blockedPipeline, Start, PipelinesAgree}
-use Rattle.calls.proofs.Sequences.{all-at, all-of}
-use Rattle.calls.proofs.Triangles.{Shaped, shaped-load, entry-load, length-store, store-same, load-store, store-whole}
+use Rattle.calls.proofs.Sequences.{all-of}
+use Rattle.calls.proofs.Triangles.{Shaped, shaped-load, length-store, store-same, load-store, store-whole}
 use Rattle.calls.proofs.Refusals.{first-passes, lowest-same, lowest-accepted, finite-rule}
 use Rattle.calls.proofs.Columns.{columns, shaped-columns, FiniteMatrix, finite-matrix, columns-finite}
 use Rattle.calls.proofs.Checks.{Sizes, sizes-pass, rearranger-checks, factor-checks, rule5-passes, rule6-passes, length-clear}

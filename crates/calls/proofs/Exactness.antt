@@ -10,8 +10,8 @@ use borrow.Author.Tests.{eq-eqb}
 use lib.Ieee.{Float, binary64, fits, toBits}
 use lib.Ieee.Fits.{and-i, and-l, and-r}
 use Rattle.binary64.specs.Kinds.{finite, positive}
-use Rattle.binary64.specs.Root.{magnitude, scaled, root, squares, exact}
-use Rattle.binary64.specs.Judged.{judged, exactRoot}
+use Rattle.binary64.specs.Root.{magnitude, scaled, squaresTo, exact}
+use Rattle.binary64.specs.Judged.{exactRoot}
 use Rattle.binary64.proofs.Differences.{belowInfinity, below-finite}
 use Rattle.binary64.proofs.RootLaws.{exact-is}
 use Rattle.shape.specs.Layouts.{Bijection}
@@ -20,7 +20,7 @@ use Rattle.calls.specs.declared.CallResult.{CallResult}
 use Rattle.calls.specs.declared.Layout.{Layout}
 use Rattle.calls.specs.declared.Layout.the-variants.{Packed, Blocked}
 use Rattle.calls.specs.declared.Call.the-variants.{Factor}
-use Rattle.calls.specs.Sequences.{all, every}
+use Rattle.calls.specs.Sequences.{all}
 use Rattle.calls.specs.Triangles.{Triangle, entry, height, placeOf, load}
 use Rattle.calls.specs.Arithmetic.{pivot, below, cholesky}
 use Rattle.calls.specs.Refusals.{accepted, byBlocks, columnVerdict, columnExact}
@@ -69,18 +69,18 @@ module _ (n : ℕ) (a : Triangle) (given : FiniteMatrix n a) (passed : T (accept
   -- which is whether the square of l(j,j) is the pivot
   column-squares :
       (j : ℕ) → j < n →
-      columnExact a (columns n a j) j ≡ squares (toBits binary64 (entry (columns n a n) j j)) (toBits binary64 (pivot a (columns n a n) j))
+      columnExact a (columns n a j) j ≡ squaresTo (toBits binary64 (entry (columns n a n) j j)) (toBits binary64 (pivot a (columns n a n) j))
   column-squares j h =
       column-exact j h
       ∙ exact-is (pivotOf j) (pivot-finite j h) (pivot-positive j h)
-      ∙ ap₂ (λ r x. squares (toBits binary64 r) (toBits binary64 x)) (sym (entry-diagonal n a n j h)) (pivot-kept n a j n (omega arith))
+      ∙ ap₂ (λ r x. squaresTo (toBits binary64 r) (toBits binary64 x)) (sym (entry-diagonal n a n j h)) (pivot-kept n a j n (omega arith))
 
   all-squares : T (columnsExact n a) → (j : ℕ) → j < n → SquareIs (entry (columns n a n) j j) (pivot a (columns n a n) j)
-  unfolding columnsExact squares
+  unfolding columnsExact squaresTo
   all-squares t j h = eqb→eq _ _ (subst T (column-squares j h) (every-at (λ c. columnExact a (columns n a c) c) n t j h))
 
   squares-all : ((j : ℕ) → j < n → SquareIs (entry (columns n a n) j j) (pivot a (columns n a n) j)) → T (columnsExact n a)
-  unfolding columnsExact squares
+  unfolding columnsExact squaresTo
   squares-all s = every-of (λ c. columnExact a (columns n a c) c) n (λ j h. subst T (sym (column-squares j h)) (subst T (sym (eq-eqb _ _ (s j h))) tt))
 
 -- ---- the call

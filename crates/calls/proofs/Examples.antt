@@ -7,7 +7,7 @@ use lib.Dec.{T, eqb}
 use lib.ListN.{replicate}
 use lib.Ieee.{Float, binary64, ofBits, toBits, mul, sub, div, lt}
 use Rattle.binary64.specs.Kinds.{kind, finite, positive}
-use Rattle.binary64.specs.Root.{root, squares, exact}
+use Rattle.binary64.specs.Root.{root, squaresTo, exact}
 use Rattle.binary64.specs.Judged.{judged}
 use Rattle.shape.specs.Places.{triangle, packedPlace, blockedPlace, blockWork}
 use Rattle.calls.specs.declared.CallResult.{CallResult}
@@ -396,5 +396,5 @@ rows =
     ∷ []
 
 pub examples-hold : T (all (λ r. r) rows)
-unfolding rows rearrange rearrangerChecks moved factorize factorChecks factored columnsVerdict columnsExact solve solverChecks solved rhsVerdict rhsPart solution solutions clear plainPipeline blockedPipeline firstRefusal lowestRefusal rule1 rule2 rule3 rule4 rule5 rule6 finiteRule rule9 rule11 columnRules columnVerdict columnExact rule12 minusProducts pivot quotient below factorColumn cholesky forward backwardRows backward iterate grow tabulate all every entry height placeOf load storeColumn store kind finite positive root squares exact judged triangle packedPlace blockedPlace blockWork toBits ofBits mul sub div lt
+unfolding rows rearrange rearrangerChecks moved factorize factorChecks factored columnsVerdict columnsExact solve solverChecks solved rhsVerdict rhsPart solution solutions clear plainPipeline blockedPipeline firstRefusal lowestRefusal rule1 rule2 rule3 rule4 rule5 rule6 finiteRule rule9 rule11 columnRules columnVerdict columnExact rule12 minusProducts pivot quotient below factorColumn cholesky forward backwardRows backward iterate grow tabulate all every entry height placeOf load storeColumn store kind finite positive root squaresTo exact judged triangle packedPlace blockedPlace blockWork toBits ofBits mul sub div lt
 examples-hold = tt

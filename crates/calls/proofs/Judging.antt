@@ -10,7 +10,6 @@ use mathlib.Core.List.{List, [], _∷_, _++_}
 use borrow.Author.Tests.{not-true, not-false, le-leb, lt-leb, le-ltb, lt-ltb}
 use lib.Dec.{T, leb, ltb}
 use Rattle.calls.specs.declared.Verdict.{Verdict}
-use Rattle.calls.specs.declared.Judgement.{Judgement}
 use Rattle.calls.specs.Sequences.{every}
 use Rattle.calls.specs.Refusals.{success, accepted, firstRefusal, lowestRefusal}
 use Rattle.calls.specs.Judgements.{judgedTo}

@@ -20,8 +20,8 @@ use Rattle.calls.specs.declared.Call.the-variants.{Rearranger, Factor, S
 use Rattle.calls.specs.Refusals.{neededWork, success, accepted, firstRefusal, lowestRefusal, rule1, rule2, rule3, rule4, rule5, rule6, rule7, rule8, rule9, columnVerdict, columnExact, rule12}
 use Rattle.calls.specs.Judgements.{judgement}
 
--- What a call returns, made here alone: from its verdict, and of a factor's columns also from whether all are accepted and every root is exact. A call
--- that takes no root, or is refused before it takes one, answers no.
+-- What a call returns, made here alone: from its verdict where it took no root, so that not every root was exact; or from what a factor's columns are
+-- judged to.
 abbrev pub resultOf : Verdict → CallResult
 resultOf v = record { code = v .code; place = v .place; value = v .value; exact = false }
 

@@ -55,7 +55,8 @@ pub record Start (n b m : ℕ) (matrix rhs plainWork blockedWork : List Float) :
   pub plainWorkLength : n ≤ length plainWork
   pub blockedWorkLength : blockWork n b ≤ length blockedWork
 
--- What is compared: the factors' results; where these accept, the solvers' results, all right-hand-side memory and all matrix memory.
+-- What is compared: the factors' results whole, with the answer whether every root was exact; where these accept, the solvers' results, all
+-- right-hand-side memory and all matrix memory.
 pub record Agreement (plain block : Ended) : Type 0 where
   pub factors : plain .factorResult ≡ block .factorResult
   pub solvers : T (succeeded (plain .factorResult)) → plain .solverResult ≡ block .solverResult

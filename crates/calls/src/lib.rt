@@ -71,7 +71,7 @@ pub fn joined(before: Judgement, column: Judgement) -> Judgement
     }
 }
 
-// Every call makes its result here: of a call that takes no root, or is refused before it takes one, from its verdict, and of a factor from what its columns are judged to.
+// Every call makes its result here: from its verdict where it took no root, or from what a factor's columns are judged to.
 pub fn result(verdict: Verdict) -> CallResult
     ensures { λ r. ⌜ r ≡ Calls.resultOf verdict ⌝ }
 {

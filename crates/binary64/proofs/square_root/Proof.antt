@@ -12,7 +12,7 @@ use borrow.Author.Needs.{needs}
 use Rattle.binary64.specs.declared.kinds.Kind.{Kind}
 use Rattle.binary64.specs.declared.kinds.Kind.the-variants.{Zero, Subnormal, Normal, Infinite, NaN}
 use Rattle.binary64.specs.Kinds.{kind, finiteKind, finite, positive}
-use Rattle.binary64.specs.Root.{rootBits, rootBy, root, squares, exact}
+use Rattle.binary64.specs.Root.{rootBits, rootBy, root, squaresTo, exact}
 use Rattle.binary64.specs.RootSteps.{PositiveFinite}
 use Rattle.binary64.proofs.Values.{nan-of-kind, number-of-kind, pattern-number}
 use Rattle.binary64.proofs.RootLaws.{root-is, positive-pattern, root-below, exact-bits, inexact-below, inexact-infinite, inexact-zero}
@@ -82,7 +82,7 @@ module _ (x : Float) (k : (kind x ≡ Subnormal) ⊎ (kind x ≡ Normal)) where
     rooted : root x ≡ ofBits binary64 (rootBits (toBits binary64 x))
     rooted = root-is x f finite-value a
 
-    exactly : exact x ≡ squares (rootBits (toBits binary64 x)) (toBits binary64 x)
+    exactly : exact x ≡ squaresTo (rootBits (toBits binary64 x)) (toBits binary64 x)
     exactly = exact-bits x f finite-value a
 
     root-number : (b : ℕ) → b ≡ rootBits (toBits binary64 x) → T (not (nanBits binary64 b))

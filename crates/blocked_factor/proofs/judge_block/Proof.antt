@@ -90,7 +90,7 @@ returns-3 c =
     in
     c .judge-column .ensures
     ∙ judged-overflow n a (args .c) (args .width) (args .rows) (args .part .now) order (omega (arith, start .pre)) stage before (overflow .result)
-    (overflow .ensures) (args .first) e (narrow (c .before .before .before .before .before .before)) decided _ (args .first .exact)
+    (overflow .ensures) (args .first) e (narrow (c .before .before .before .before .before .before)) decided _ false
 
 pub judge-block-spec : {M : Type 1} → statement M
 judge-block-spec =
