@@ -32,11 +32,9 @@
 #ifndef METSOVARY_H
 #define METSOVARY_H
 
+#include <stdbool.h>
 #include <stddef.h>
 #include <stdint.h>
-#ifndef __cplusplus
-#include <stdbool.h>
-#endif
 
 #ifdef __cplusplus
 extern "C" {

@@ -4,6 +4,8 @@
 #include <math.h>
 #include <stdarg.h>
 
+_Static_assert(sizeof(metsovary_result) == 32 && offsetof(metsovary_result, value) == 16 && offsetof(metsovary_result, exact) == 24, "the layout of a result");
+
 /* ---- places ---- */
 
 size_t place(enum layout layout, metsovary_shape shape, size_t i, size_t j) {
@@ -274,7 +276,7 @@ static metsovary_result compared(const char *what, metsovary_shape shape, metsov
         (unsigned long long)shape.block, (unsigned long long)got.code, (unsigned long long)got.place, (unsigned long long)to_bits(got.value), got.exact,
         (unsigned long long)wanted.code, (unsigned long long)wanted.place, (unsigned long long)to_bits(wanted.value), wanted.exact);
     expect(memories, "%s n %llu b %llu: memory differs (code %llu)", what, (unsigned long long)shape.order, (unsigned long long)shape.block, (unsigned long long)wanted.code);
-    return wanted;
+    return got;
 }
 
 metsovary_result compare_rearrange(enum layout from, enum layout to, metsovary_shape shape, memory matrix, memory work) {
@@ -285,7 +287,7 @@ metsovary_result compare_rearrange(enum layout from, enum layout to, metsovary_s
     compared(to == BLOCKED ? "packed_to_blocked" : "blocked_to_packed", shape, got, wanted, memory_same(a, matrix) && memory_same(w, work));
     memory_free(a);
     memory_free(w);
-    return wanted;
+    return got;
 }
 
 metsovary_result compare_factor(enum layout layout, metsovary_shape shape, memory matrix, memory work) {
@@ -296,7 +298,7 @@ metsovary_result compare_factor(enum layout layout, metsovary_shape shape, memor
     compared(layout == PACKED ? "factor_plain" : "factor_blocked", shape, got, wanted, memory_same(a, matrix) && memory_same(w, work));
     memory_free(a);
     memory_free(w);
-    return wanted;
+    return got;
 }
 
 metsovary_result compare_solve(enum layout layout, metsovary_shape shape, uint64_t m, memory matrix, memory x, memory work) {
@@ -308,5 +310,5 @@ metsovary_result compare_solve(enum layout layout, metsovary_shape shape, uint64
     memory_free(a);
     memory_free(s);
     memory_free(w);
-    return wanted;
+    return got;
 }

@@ -59,8 +59,8 @@ static metsovary_result both(metsovary_shape shape, size_t m, memory a, memory x
             metsovary_blocked_to_packed(shape, c.values, c.length, v.values, v.length);
         }
     }
-    expect(same_result(f, g), "n %zu b %zu: the factors' results differ: %llu %llu, %llu %llu", n, b, (unsigned long long)f.code, (unsigned long long)f.place,
-        (unsigned long long)g.code, (unsigned long long)g.place);
+    expect(same_result(f, g), "n %zu b %zu: the factors' results differ: %llu %llu exact %d, %llu %llu exact %d", n, b, (unsigned long long)f.code, (unsigned long long)f.place, f.exact,
+        (unsigned long long)g.code, (unsigned long long)g.place, g.exact);
     if (f.code == 0) {
         expect(same_result(s, t), "n %zu b %zu: the solvers' results differ", n, b);
         expect(memory_same(x, z), "n %zu b %zu: the right-hand sides differ", n, b);
@@ -91,19 +91,19 @@ static void two_of(size_t n, size_t b) {
 
 /* A = L·Lᵀ of whole numbers, so that every root is exact. A column with zeros below its diagonal may have one more than a square there: then its root alone is not,
  * and so the factor is not. */
-static void whole_numbers(size_t n, size_t b, size_t odd_one, bool with_reference) {
+static void whole_numbers(size_t n, size_t b, size_t inexact_column, bool with_reference) {
     metsovary_shape shape = {n, b};
     memory l = memory_new(triangle(n)), a = memory_new(triangle(n));
     for (size_t j = 0; j < n; j++)
-        for (size_t i = j; i < n; i++) l.values[place(PACKED, shape, i, j)] = i == j ? 1.0 + (double)(random_bits() % 9) : j == odd_one ? 0.0 : (double)(random_bits() % 17) - 8;
+        for (size_t i = j; i < n; i++) l.values[place(PACKED, shape, i, j)] = i == j ? 1.0 + (double)(random_bits() % 9) : j == inexact_column ? 0.0 : (double)(random_bits() % 17) - 8;
     for (size_t j = 0; j < n; j++)
         for (size_t i = j; i < n; i++) {
-            double sum = i == j && j == odd_one ? 1.0 : 0.0; /* whole numbers below 2^53 throughout */
+            double sum = i == j && j == inexact_column ? 1.0 : 0.0; /* whole numbers below 2^53 throughout */
             for (size_t k = 0; k <= j; k++) sum += l.values[place(PACKED, shape, i, k)] * l.values[place(PACKED, shape, j, k)];
             a.values[place(PACKED, shape, i, j)] = sum;
         }
     metsovary_result r = both(shape, 0, a, memory_new(0), with_reference);
-    expect(r.code == 0 && r.exact == (odd_one >= n), "n %zu b %zu, no square in column %zu: code %llu, exact %d", n, b, odd_one, (unsigned long long)r.code, r.exact);
+    expect(r.code == 0 && r.exact == (inexact_column >= n), "n %zu b %zu, no square in column %zu: code %llu, exact %d", n, b, inexact_column, (unsigned long long)r.code, r.exact);
     memory_free(l);
 }
 
@@ -240,7 +240,7 @@ int main(void) {
     group("whole numbers: every root exact, and one that is not in each column");
     for (size_t n = 0; n <= 40; n++)
         for (size_t k = 0; k < BLOCKS; k += n < 12 ? 1 : 7)
-            for (size_t odd_one = 0; odd_one <= n; odd_one++) whole_numbers(n, block_length(k), odd_one, true);
+            for (size_t inexact_column = 0; inexact_column <= n; inexact_column++) whole_numbers(n, block_length(k), inexact_column, true);
     for (size_t k = 0; k < BLOCKS; k += 5) {
         whole_numbers(263, block_length(k), 263, true);
         whole_numbers(263, block_length(k), random_bits() % 263, true);

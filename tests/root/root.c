@@ -100,8 +100,8 @@ static void near_normal_powers_of_two(void) {
     compare_range(INFINITE - NEAR, INFINITE - 1);
 }
 
-// Squares that need no rounding, with their roots: of the whole numbers below 2^20, and r · 2^e of random r of 27 digits, up to 94,906,265, whose square is the
-// last of 53 digits, for each e whose square is in range. A square times 4^e is exact for e from -537, where its last digit is the smallest unit.
+// Squares that need no rounding, with their roots: of the whole numbers below 2^20, and r · 2^e of random r of at most 27 digits, up to 94,906,265, whose
+// square is the last of 53 digits, for each e whose square is in range. A square times 4^e is exact for e from -537, where its last digit is the smallest unit.
 static void for_each_square(void (*visit)(uint64_t square, uint64_t root)) {
     for (uint64_t r = 1; r < UINT64_C(1) << 20; r++) visit(bits_of((double)(r * r)), bits_of((double)r));
     for (int e = -537; e <= 485; e++) {

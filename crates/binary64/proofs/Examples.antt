@@ -6,8 +6,9 @@ use lib.Dec.{T, eqb}
 use lib.Ieee.{binary64, ofBits, toBits, lt}
 use Rattle.binary64.specs.declared.kinds.Kind.{Kind}
 use Rattle.binary64.specs.declared.kinds.Kind.the-variants.{Zero, Subnormal, Normal, Infinite, NaN}
-use Rattle.binary64.specs.Kinds.{kindOfBits, kind, finite, kindNumber}
+use Rattle.binary64.specs.Kinds.{kindOfBits, kind, finite, positive, kindNumber}
 use Rattle.binary64.specs.Root.{root, squaresTo, exact}
+use Rattle.binary64.specs.Judged.{judged, exactRoot}
 
 -- a pattern and its kind with that kind's number; its value has the same kind
 hasKind : ℕ → Kind → ℕ → Bool
@@ -17,8 +18,12 @@ hasKind p k number = eqb (kindNumber (kindOfBits p)) number && eqb (kindNumber (
 hasRoot : ℕ → ℕ → Bool → Bool
 hasRoot v r e = let x = ofBits binary64 v in eqb (toBits binary64 (root x)) r && cond e (exact x) (not (exact x))
 
+-- a pivot that is refused has no exact root
+refusedInexact : ℕ → Bool
+refusedInexact v = not (exactRoot (judged (ofBits binary64 v)))
+
 pub rows : List Bool
-unfolding hasKind hasRoot
+unfolding hasKind hasRoot refusedInexact
 rows =
     -- the first and the last pattern of each kind, and of the normal ones those of either kind of fraction, with each sign
     hasKind 0x0000_0000_0000_0000 Zero 0
@@ -66,6 +71,9 @@ rows =
     ∷ hasRoot 0x4020_0000_0000_0000 0x4006_A09E_667F_3BCD false
     ∷ hasRoot 0x4026_0000_0000_0000 0x400A_8872_93FD_6F34 false
     ∷ hasRoot 0xC010_0000_0000_0000 0x7FF8_0000_0000_0000 false
+    ∷ refusedInexact 0x0000_0000_0000_0000
+    ∷ refusedInexact 0x8000_0000_0000_0000
+    ∷ refusedInexact 0xC010_0000_0000_0000
     ∷ []
 
 abbrev pub allRight : List Bool → Bool
@@ -73,5 +81,5 @@ allRight [] = true
 allRight (r ∷ rs) = r && allRight rs
 
 pub examples-hold : T (allRight rows)
-unfolding rows root squaresTo exact kindOfBits kind finite ofBits toBits lt
+unfolding rows root squaresTo exact judged positive kindOfBits kind finite ofBits toBits lt
 examples-hold = tt

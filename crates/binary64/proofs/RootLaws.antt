@@ -1,4 +1,4 @@
--- Laws of `root` on floats: where it is positive, finite, and a value of the format. Assumes nothing.
+-- Laws of `root` and `exact` on floats: where the root is positive, finite, and a value of the format, and where it is exact. Assumes nothing.
 use mathlib.Core.Logic.{_⊎_, inl, inr}
 use mathlib.Core.Path.{_≡_, refl, sym, ap, _∙_, subst}
 use mathlib.Core.Bool.{Bool, true, false, not, _&&_}

@@ -64,7 +64,7 @@ unfoldable pub root : Float → Float
 unfolding rootBy positive
 root x = rootBy (kind x) (positive x) x
 
--- the square of pattern r's value is pattern p's value, as whole numbers on the scale of `scaled`: nothing is rounded
+-- the square of r's size is p's size, as whole numbers on the scale of `scaled`: nothing is rounded, and signs do not count
 unfoldable pub squaresTo : ℕ → ℕ → Bool
 unfolding magnitude scaled
 squaresTo r p = eqb ((2 * magnitude r) ^ 2) (scaled p)

@@ -18,12 +18,12 @@ use Rattle.calls.specs.Sequences.{every}
 use Rattle.calls.specs.Triangles.{Triangle, height, load, store}
 use Rattle.calls.specs.Arithmetic.{cholesky}
 use Rattle.calls.specs.Refusals.{success, accepted, lowestRefusal}
-use Rattle.calls.specs.Calls.{finished, columnsVerdict, columnsExact, columnsJudged}
+use Rattle.calls.specs.Calls.{judgeColumn, exactColumn, finished, columnsVerdict, columnsExact, columnsJudged}
 use Rattle.calls.proofs.Triangles.{entry-load, memory-ext, length-store, store-same, store-other}
 use Rattle.calls.proofs.Columns.{columns, entry-kept, shaped-columns}
 use Rattle.calls.proofs.Refusals.{lowest-accepted}
 use Rattle.calls.proofs.Judging.{lowest-all, judged-stays}
-use Rattle.blocked_factor.specs.BlockStages.{judgeColumn, exactColumn, columnsTo}
+use Rattle.blocked_factor.specs.BlockStages.{columnsTo}
 use Rattle.blocked_factor.specs.BlockSteps.{BlockAt, FactoredTo, BlockDone, Sized, BlocksDone}
 use Rattle.blocked_factor.proofs.BlockVerdicts.{judge-success, lowest-place}
 use Rattle.blocked_factor.proofs.EarlierBlocks.{inside-le}

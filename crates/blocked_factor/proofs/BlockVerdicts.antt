@@ -1,4 +1,5 @@
--- The verdict of a finished block column, from the first refusal by a pivot and the lowest column with an overflow. Assumes nothing.
+-- What the columns up to the end of a finished block column are judged to, from what they are by their pivots and the lowest column with an overflow. Assumes
+-- nothing.
 use Prim.Native.Nat.{ℕ, suc, _+_, _-_, _≤_, _<_}
 use native.Mathlib.Nat.{add-zero}
 use native.Mathlib.Omega.{arith}
@@ -23,13 +24,14 @@ use Rattle.calls.specs.Triangles.{Triangle, height}
 use Rattle.calls.specs.Arithmetic.{pivot, quotient, below}
 use Rattle.calls.specs.Refusals.{success, accepted, lowestRefusal, columnRules, columnVerdict}
 use Rattle.calls.specs.Judgements.{judgement}
+use Rattle.calls.specs.Calls.{judgeColumn, exactColumn}
 use Rattle.calls.proofs.Sequences.{length-tabulate, getD-tabulate, tabulate-same, all-append, all-at, all-of}
 use Rattle.calls.proofs.Columns.{columns, entry-quotient}
 use Rattle.calls.proofs.Refusals.{Lowest, lowest-success, lowest-same, lowest-accepted, lowest-refused}
 use Rattle.calls.proofs.Judging.{lowest-found}
 use Rattle.calls.proofs.ColumnRules.{rules-success, rules-place, rules-pivot, rules-below, rules-root, rules-accepted}
 use Rattle.blocked_factor.specs.BlockColumns.{rowStart, columnFinite, LowestOverflow}
-use Rattle.blocked_factor.specs.BlockStages.{judgeColumn, judgePivot, exactColumn, columnsTo, pivotsTo, Stage, allRows, ColumnsFinished, BlockColumnJudged, BlockColumnFactored}
+use Rattle.blocked_factor.specs.BlockStages.{judgePivot, columnsTo, pivotsTo, Stage, allRows, ColumnsFinished, BlockColumnJudged, BlockColumnFactored}
 use Rattle.blocked_factor.proofs.BlockRows.{row-lt}
 
 pub judge-success : (n : ℕ) (a : Triangle) (j : ℕ) → T (accepted (judgeColumn n a j)) → judgeColumn n a j ≡ success

@@ -20,9 +20,10 @@ use Rattle.calls.specs.Triangles.{Triangle}
 use Rattle.calls.specs.Arithmetic.{minusProducts}
 use Rattle.calls.specs.Refusals.{columnRules, columnExact}
 use Rattle.calls.specs.Judgements.{judgement, Joined}
+use Rattle.calls.specs.Calls.{exactColumn}
 use Rattle.kernels.specs.Kernels.{Scattered, rowAt}
 use Rattle.blocked_factor.specs.BlockColumns.{rowStart, lessPanel, PanelUpdated, ColumnDivided, rootOf}
-use Rattle.blocked_factor.specs.BlockStages.{judgePivot, exactColumn, pivotsTo, Stage, allRows, rowsTo, topRows, RowsFinished, DiagonalFinished, TriangleFinished, BelowFinished, ColumnsFinished}
+use Rattle.blocked_factor.specs.BlockStages.{judgePivot, pivotsTo, Stage, allRows, rowsTo, topRows, RowsFinished, DiagonalFinished, TriangleFinished, BelowFinished, ColumnsFinished}
 use Rattle.blocked_factor.proofs.BlockRows.{row-next, row-mono, row-lt, row-apart}
 use Rattle.blocked_factor.proofs.Stages.{rows-in, rows-above, rows-under, stage-same, panel-pivot, panel-root, panel-quotient, stage-next, stage-updated, stage-all}
 

@@ -1,7 +1,7 @@
 -- How far a block column of a matrix `a` of order n is worked on, and how it is judged. It begins with column c and its memory at place 0.
 use Prim.Native.Nat.{ℕ, _+_, _≤_, _<_}
 use mathlib.Core.Path.{_≡_}
-use mathlib.Core.Bool.{Bool, true, cond, _&&_}
+use mathlib.Core.Bool.{true, cond, _&&_}
 use mathlib.Core.List.{List}
 use lib.Dec.{leb, ltb}
 use lib.ListN.{length, getD}
@@ -11,8 +11,9 @@ use Rattle.calls.specs.declared.Verdict.{Verdict}
 use Rattle.calls.specs.declared.Judgement.{Judgement}
 use Rattle.calls.specs.Triangles.{Triangle, entry, height}
 use Rattle.calls.specs.Arithmetic.{minusProducts, pivot, cholesky}
-use Rattle.calls.specs.Refusals.{success, lowestRefusal, columnRules, columnVerdict, columnExact}
+use Rattle.calls.specs.Refusals.{success, lowestRefusal, columnRules}
 use Rattle.calls.specs.Judgements.{judgedTo}
+use Rattle.calls.specs.Calls.{judgeColumn, exactColumn}
 use Rattle.blocked_factor.specs.BlockColumns.{rowStart}
 
 -- an entry of the factor
@@ -23,15 +24,9 @@ factorEntry n a i j = entry (cholesky (height n) a n) i j
 abbrev pub lessProducts : ℕ → Triangle → ℕ → ℕ → ℕ → Float
 lessProducts n a k i j = minusProducts (λ q. factorEntry n a i q) (λ q. factorEntry n a j q) k (entry a i j)
 
-abbrev pub judgeColumn : ℕ → Triangle → ℕ → Verdict
-judgeColumn n a = λ j. columnVerdict (height n) a (cholesky (height n) a j) j
-
 -- what a column is judged to where the entries below its pivot are finite
 abbrev pub judgePivot : ℕ → Triangle → ℕ → Verdict
 judgePivot n a = λ j. columnRules j (judged (pivot a (cholesky (height n) a j) j)) true
-
-abbrev pub exactColumn : ℕ → Triangle → ℕ → Bool
-exactColumn n a = λ j. columnExact a (cholesky (height n) a j) j
 
 -- what the first k columns are judged to, and what by their pivots alone
 abbrev pub columnsTo : ℕ → Triangle → ℕ → Judgement

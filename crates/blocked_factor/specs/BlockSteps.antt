@@ -12,9 +12,9 @@ use Rattle.calls.specs.declared.Judgement.{Judgement}
 use Rattle.calls.specs.Triangles.{Triangle, entry}
 use Rattle.calls.specs.Refusals.{success, accepted, lowestRefusal}
 use Rattle.calls.specs.declared.Layout.the-variants.{Blocked}
-use Rattle.calls.specs.Calls.{finished}
+use Rattle.calls.specs.Calls.{judgeColumn, finished}
 use Rattle.blocked_factor.specs.BlockColumns.{rowStart}
-use Rattle.blocked_factor.specs.BlockStages.{factorEntry, judgeColumn, columnsTo}
+use Rattle.blocked_factor.specs.BlockStages.{factorEntry, columnsTo}
 
 -- column c begins a block column of a matrix of order n, with a block length above 1, in a memory of its length
 pub record BlockAt (n b c len : ℕ) : Type 0 where

@@ -141,6 +141,10 @@ module _ (n : ℕ) (a : Triangle) (given : FiniteMatrix n a) where
       squares-below (λ k. entry (columns n a j) j k) j (entry a j j) (given .values j j diagonal) (given .finites j j diagonal)
       (λ k p. before j k (record { lower = omega arith; inside = h }) p)
 
+  pub pivot-finite : (j : ℕ) → j < n → FiniteColumns j → T (positive (pivot a (columns n a j) j)) → T (finite (pivot a (columns n a j) j))
+  pivot-finite j h before p =
+      let under = pivot-below j h before in below-finite (pivot a (columns n a j) j) (under .0) (under .1) p
+
   pub columns-finite : (k : ℕ) → k ≤ n → ((j : ℕ) → j < k → T (accepted (columnVerdict (height n) a (columns n a j) j))) → FiniteColumns k
   columns-finite zero le pass i j e h = absurd (omega arith)
   columns-finite (suc k) le pass i j e h =
@@ -164,9 +168,6 @@ module _ (n : ℕ) (a : Triangle) (given : FiniteMatrix n a) where
           (omega (arith, length-below n a k (columns n a k), e .inside, e .lower)))
       last here before passed (no q) =
           let diagonal : i ≡ k = omega (arith, e .lower) in
-          let pv : T (fits binary64 (pivot a (columns n a k) k)) × T (belowInfinity (pivot a (columns n a k) k)) =
-          pivot-below k (omega arith) before
-          in
           rw diagonal
           (subst (λ x. T (finite x)) (sym (entry-diagonal n a (suc k) k (omega arith)))
-          (root-finite (pivot a (columns n a k) k) (pv .0) (below-finite (pivot a (columns n a k) k) (pv .0) (pv .1) (passed .0)) (passed .0)))
+          (root-finite (pivot a (columns n a k) k) (pivot-below k (omega arith) before .0) (pivot-finite k (omega arith) before (passed .0)) (passed .0)))

@@ -1,5 +1,5 @@
 -- A factor's answer whether every root was exact, read out: yes exactly if it accepts and the square of every l(j,j) is its pivot. Assumes nothing.
-use Prim.Native.Nat.{ℕ, _*_, _^_, _≤_, _<_}
+use Prim.Native.Nat.{ℕ, _*_, _^_, _<_}
 use native.Mathlib.Omega.{arith}
 use mathlib.Core.Path.{_≡_, refl, sym, ap, ap₂, _∙_, subst}
 use mathlib.Core.Bool.{Bool, true, false, _&&_}
@@ -12,13 +12,10 @@ use lib.Ieee.Fits.{and-i, and-l, and-r}
 use Rattle.binary64.specs.Kinds.{finite, positive}
 use Rattle.binary64.specs.Root.{magnitude, scaled, squaresTo, exact}
 use Rattle.binary64.specs.Judged.{exactRoot}
-use Rattle.binary64.proofs.Differences.{belowInfinity, below-finite}
 use Rattle.binary64.proofs.RootLaws.{exact-is}
 use Rattle.shape.specs.Layouts.{Bijection}
-use Rattle.shape.proofs.Bijections.{packed-bijection, blocked-bijection}
 use Rattle.calls.specs.declared.CallResult.{CallResult}
 use Rattle.calls.specs.declared.Layout.{Layout}
-use Rattle.calls.specs.declared.Layout.the-variants.{Packed, Blocked}
 use Rattle.calls.specs.declared.Call.the-variants.{Factor}
 use Rattle.calls.specs.Sequences.{all}
 use Rattle.calls.specs.Triangles.{Triangle, entry, height, placeOf, load}
@@ -28,11 +25,12 @@ use Rattle.calls.specs.Calls.{succeeded, resultOf, judgedResult, factorC
 use Rattle.calls.proofs.Sequences.{every-at, every-of}
 use Rattle.calls.proofs.Refusals.{lowest-accepted}
 use Rattle.calls.proofs.ColumnRules.{rules-accepted}
-use Rattle.calls.proofs.Columns.{columns, entry-diagonal, column-accepted, FiniteMatrix, finite-matrix, pivot-below, columns-finite}
-use Rattle.calls.proofs.CheckLaws.{SizesAccepted, FactorAccepted, factor-accepted}
+use Rattle.calls.proofs.Columns.{columns, entry-diagonal, column-accepted, FiniteMatrix, finite-matrix, pivot-finite, columns-finite}
+use Rattle.calls.proofs.CheckLaws.{FactorAccepted, factor-accepted, factor-refused}
+use Rattle.calls.proofs.Rearranging.{place-bijection}
 use Rattle.calls.proofs.Entries.{pivot-kept}
 
--- r's square is x, as whole numbers on one scale
+-- the square of r's size is x's size, as whole numbers on one scale; here both are above zero
 abbrev pub SquareIs : Float → Float → Type 0
 SquareIs r x = (2 * magnitude (toBits binary64 r)) ^ 2 ≡ scaled (toBits binary64 x)
 
@@ -54,12 +52,9 @@ module _ (n : ℕ) (a : Triangle) (given : FiniteMatrix n a) (passed : T (accept
   pivot-positive : (j : ℕ) → j < n → T (positive (pivotOf j))
   pivot-positive j h = column-accepted (height n) a (columns n a j) j (each j h) .0
 
-  pivot-finite : (j : ℕ) → j < n → T (finite (pivotOf j))
-  pivot-finite j h =
-      let under : T (fits binary64 (pivotOf j)) × T (belowInfinity (pivotOf j)) =
-      pivot-below n a given j h (columns-finite n a given j (omega arith) (λ c p. each c (omega arith)))
-      in
-      below-finite (pivotOf j) (under .0) (under .1) (pivot-positive j h)
+  finite-here : (j : ℕ) → j < n → T (finite (pivotOf j))
+  finite-here j h =
+      pivot-finite n a given j h (columns-finite n a given j (omega arith) (λ c p. each c (omega arith))) (pivot-positive j h)
 
   -- an accepted column's exactness is that of its root
   column-exact : (j : ℕ) → j < n → columnExact a (columns n a j) j ≡ exact (pivotOf j)
@@ -72,7 +67,7 @@ module _ (n : ℕ) (a : Triangle) (given : FiniteMatrix n a) (passed : T (accept
       columnExact a (columns n a j) j ≡ squaresTo (toBits binary64 (entry (columns n a n) j j)) (toBits binary64 (pivot a (columns n a n) j))
   column-squares j h =
       column-exact j h
-      ∙ exact-is (pivotOf j) (pivot-finite j h) (pivot-positive j h)
+      ∙ exact-is (pivotOf j) (finite-here j h) (pivot-positive j h)
       ∙ ap₂ (λ r x. squaresTo (toBits binary64 r) (toBits binary64 x)) (sym (entry-diagonal n a n j h)) (pivot-kept n a j n (omega arith))
 
   all-squares : T (columnsExact n a) → (j : ℕ) → j < n → SquareIs (entry (columns n a n) j j) (pivot a (columns n a n) j)
@@ -93,26 +88,19 @@ module _ (layout : Layout) (n b : ℕ) (matrix work : List Float) (v : T (all (f
   checks = accepted (factorChecks layout n b matrix (length work))
 
   given-matrix : T checks → FiniteMatrix n a
-  unfolding placeOf
-  given-matrix t = finite-matrix (placeOf layout n b) n (bijection layout (sizes .blockLow)) matrix (sizes .matrix) v (known .matrixFinite)
-    where
-      known : FactorAccepted layout n b matrix (length work)
-      known = factor-accepted layout n b matrix (length work) t
-
-      sizes : SizesAccepted (Factor layout) n b (length matrix) (length work)
-      sizes = known .sizes
-
-      bijection : (layout : Layout) → (T (byBlocks (Factor layout)) → 1 ≤ b) → Bijection (placeOf layout n b) n
-      bijection Packed low = packed-bijection n
-      bijection Blocked low = blocked-bijection n b (low tt)
+  given-matrix t =
+      let known : FactorAccepted layout n b matrix (length work) = factor-accepted layout n b matrix (length work) t in
+      let bij : Bijection (placeOf layout n b) n =
+      place-bijection layout n b (λ e. known .sizes .blockLow (subst (λ l. T (byBlocks (Factor l))) (sym e) tt))
+      in
+      finite-matrix (placeOf layout n b) n bij matrix (known .sizes .matrix) v (known .matrixFinite)
 
   result-passed : checks ≡ true → factorize layout n b matrix work .result ≡ judgedResult (columnsJudged n a)
   unfolding factorize factored
   result-passed e = rw e refl
 
   result-refused : checks ≡ false → factorize layout n b matrix work .result ≡ resultOf (factorChecks layout n b matrix (length work))
-  unfolding factorize
-  result-refused e = rw e refl
+  result-refused e = sym (factor-refused layout n b matrix work (factorChecks layout n b matrix (length work)) refl e .result)
 
   exact-squared : T (factorize layout n b matrix work .result .exact) → AllExact n a (factorize layout n b matrix work .result)
   exact-squared t = go checks refl

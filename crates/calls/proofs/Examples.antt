@@ -111,9 +111,12 @@ holds (x ∷ xs) (p ∷ ps) = eqb (toBits binary64 x) p && holds xs ps
 abbrev Answer : Type 0
 Answer = ℕ × ℕ × ℕ × Bool
 
--- a factor with every root exact, and another factor or another call
+-- a factor with every root exact, a factor with a root that is not, and a call that takes none
 abbrev allExact : Answer
 allExact = (0, 0, 0, true)
+
+abbrev someInexact : Answer
+someInexact = (0, 0, 0, false)
 
 abbrev success : Answer
 success = (0, 0, 0, false)
@@ -266,15 +269,15 @@ rows =
     ∷ hasRoot 0x4000_0000_0000_0000 0x3FF6_A09E_667F_3BCD
     -- ---- document 02, (e): 4 above is exact, and so are the job on both pipelines and n 0; 7, 10 and 11 are not.
     -- The matrix 2 is not, the smallest subnormal is.
-    ∷ factors Packed 1 1 1 (two ∷ []) success (0x3FF6_A09E_667F_3BCD ∷ [])
-    ∷ factors Blocked 1 2 1 (two ∷ []) success (0x3FF6_A09E_667F_3BCD ∷ [])
+    ∷ factors Packed 1 1 1 (two ∷ []) someInexact (0x3FF6_A09E_667F_3BCD ∷ [])
+    ∷ factors Blocked 1 2 1 (two ∷ []) someInexact (0x3FF6_A09E_667F_3BCD ∷ [])
     ∷ factors Packed 1 1 1 (1 ∷ []) allExact (0x1E60_0000_0000_0000 ∷ [])
     ∷ factors Blocked 1 2 1 (1 ∷ []) allExact (0x1E60_0000_0000_0000 ∷ [])
     -- One root that is not exact among others that are: the first, and the last.
-    ∷ factors Packed 2 1 2 (two ∷ 0 ∷ four ∷ []) success (0x3FF6_A09E_667F_3BCD ∷ 0 ∷ two ∷ [])
-    ∷ factors Blocked 2 2 4 (two ∷ 0 ∷ four ∷ []) success (0x3FF6_A09E_667F_3BCD ∷ 0 ∷ two ∷ [])
-    ∷ factors Packed 2 1 2 (four ∷ 0 ∷ two ∷ []) success (two ∷ 0 ∷ 0x3FF6_A09E_667F_3BCD ∷ [])
-    ∷ factors Blocked 2 2 4 (four ∷ 0 ∷ two ∷ []) success (two ∷ 0 ∷ 0x3FF6_A09E_667F_3BCD ∷ [])
+    ∷ factors Packed 2 1 2 (two ∷ 0 ∷ four ∷ []) someInexact (0x3FF6_A09E_667F_3BCD ∷ 0 ∷ two ∷ [])
+    ∷ factors Blocked 2 2 4 (two ∷ 0 ∷ four ∷ []) someInexact (0x3FF6_A09E_667F_3BCD ∷ 0 ∷ two ∷ [])
+    ∷ factors Packed 2 1 2 (four ∷ 0 ∷ two ∷ []) someInexact (two ∷ 0 ∷ 0x3FF6_A09E_667F_3BCD ∷ [])
+    ∷ factors Blocked 2 2 4 (four ∷ 0 ∷ two ∷ []) someInexact (two ∷ 0 ∷ 0x3FF6_A09E_667F_3BCD ∷ [])
     -- ---- beyond document 01's list
     -- What stays after 10: the plain factor keeps its finished columns, the blocked one its finished block columns.
     ∷ factors Packed 2 1 2 (four ∷ two ∷ one ∷ []) (10, 1, 0, false) (two ∷ one ∷ one ∷ [])
@@ -297,7 +300,7 @@ rows =
     ∷ factors Packed 2 1 2 (one ∷ 0x3FF0_0000_0000_0001 ∷ 0x3FF0_0000_0000_0002 ∷ []) (10, 1, 0, false)
     (one ∷ 0x3FF0_0000_0000_0001 ∷ 0x3FF0_0000_0000_0002 ∷ [])
     -- 5 / 3 ends in B, 5 × (1 / 3) in A.
-    ∷ factors Packed 2 1 2 (nine ∷ five ∷ four ∷ []) success (three ∷ 0x3FFA_AAAA_AAAA_AAAB ∷ 0x3FF1_B04C_62A8_F4CD ∷ [])
+    ∷ factors Packed 2 1 2 (nine ∷ five ∷ four ∷ []) someInexact (three ∷ 0x3FFA_AAAA_AAAA_AAAB ∷ 0x3FF1_B04C_62A8_F4CD ∷ [])
     -- Forward 5 / 3 and backward 5 / 3 likewise: with a product by 1 / 3 the first row ends in 1, the second in A.
     ∷ solves Packed 1 1 1 (three ∷ []) (five ∷ []) success (0x3FE1_C71C_71C7_1C72 ∷ [])
     ∷ solves Packed 1 1 1 (three ∷ []) (fifteen ∷ []) success (0x3FFA_AAAA_AAAA_AAAB ∷ [])
@@ -391,7 +394,7 @@ rows =
     ∷ factors Packed 2 1 2 (0 ∷ one ∷ one ∷ []) (10, 0, 0, false) (0 ∷ one ∷ one ∷ [])
     ∷ factors Blocked 2 2 4 (0 ∷ one ∷ one ∷ []) (10, 0, 0, false) (0 ∷ one ∷ one ∷ [])
     -- l(3,2) is 1 − 2^−54 − 1: +0 with rising k, −2^−54 with falling k or the products summed first.
-    ∷ factors Packed 4 1 4 (one ∷ 0 ∷ one ∷ twoToMinus54 ∷ one ∷ one ∷ one ∷ three ∷ one ∷ four ∷ []) success
+    ∷ factors Packed 4 1 4 (one ∷ 0 ∷ one ∷ twoToMinus54 ∷ one ∷ one ∷ one ∷ three ∷ one ∷ four ∷ []) someInexact
     (one ∷ 0 ∷ one ∷ twoToMinus54 ∷ one ∷ one ∷ one ∷ one ∷ 0 ∷ 0x3FFB_B67A_E858_4CAA ∷ [])
     ∷ []
 

@@ -1,7 +1,7 @@
 -- Each rearranger undoes the other, for every n and every b ≥ 1, on memory of every content. Assumes nothing.
-use Prim.Native.Nat.{ℕ, _≤_}
+use Prim.Native.Nat.{ℕ, _≤_, _<_}
 use native.Mathlib.Omega.{arith}
-use mathlib.Core.Path.{_≡_, ap, _∙_}
+use mathlib.Core.Path.{_≡_, refl, ap, _∙_}
 use mathlib.Core.List.{List}
 use lib.ListN.{length}
 use lib.Ieee.{Float}
@@ -14,10 +14,13 @@ use Rattle.calls.specs.Triangles.{placeOf, height, load, store}
 use Rattle.calls.specs.Calls.{moved}
 use Rattle.calls.proofs.Triangles.{shaped-load, length-store, load-store, store-whole, store-load}
 
-pub layout-bijection : (layout : Layout) (n b : ℕ) → 1 ≤ b → Bijection (placeOf layout n b) n
+pub place-bijection : (layout : Layout) (n b : ℕ) → (layout ≡ Blocked → 0 < b) → Bijection (placeOf layout n b) n
 unfolding placeOf
-layout-bijection Packed n b h = packed-bijection n
-layout-bijection Blocked n b h = blocked-bijection n b h
+place-bijection Packed n b h = packed-bijection n
+place-bijection Blocked n b h = blocked-bijection n b (h refl)
+
+pub layout-bijection : (layout : Layout) (n b : ℕ) → 1 ≤ b → Bijection (placeOf layout n b) n
+layout-bijection layout n b h = place-bijection layout n b (λ e. h)
 
 module _ (from to : Layout) (n b : ℕ) (positive : 1 ≤ b) (m : List Float) (whole : length m ≡ triangle n) where
   pub length-moved : length (moved from to n b m) ≡ triangle n

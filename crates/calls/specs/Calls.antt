@@ -20,13 +20,12 @@ use Rattle.calls.specs.declared.Call.the-variants.{Rearranger, Factor, S
 use Rattle.calls.specs.Refusals.{neededWork, success, accepted, firstRefusal, lowestRefusal, rule1, rule2, rule3, rule4, rule5, rule6, rule7, rule8, rule9, columnVerdict, columnExact, rule12}
 use Rattle.calls.specs.Judgements.{judgement}
 
--- What a call returns, made here alone: from its verdict where it took no root, so that not every root was exact; or from what a factor's columns are
--- judged to.
-abbrev pub resultOf : Verdict → CallResult
-resultOf v = record { code = v .code; place = v .place; value = v .value; exact = false }
-
+-- What a call returns, made here alone: of a factor from what its columns are judged to; where no root was taken from the verdict, and the answer is no.
 abbrev pub judgedResult : Judgement → CallResult
 judgedResult j = record { code = j .verdict .code; place = j .verdict .place; value = j .verdict .value; exact = j .exact }
+
+abbrev pub resultOf : Verdict → CallResult
+resultOf v = judgedResult (record { verdict = v; exact = false })
 
 abbrev pub succeeded : CallResult → Bool
 succeeded r = eqb (r .code) 0
@@ -86,13 +85,19 @@ unfoldable pub factorChecks : Layout → ℕ → ℕ → List Float → ℕ → 
 factorChecks layout n b matrix workLength =
     firstRefusal (rule1 n ∷ rule2 (Factor layout) b ∷ rule3 n (length matrix) ∷ rule4 (Factor layout) n b workLength ∷ rule7 matrix ∷ [])
 
--- codes 10 and 11: each column is judged from the columns before it
-unfoldable pub columnsVerdict : ℕ → Triangle → Verdict
-columnsVerdict n a = lowestRefusal (λ j. columnVerdict (height n) a (cholesky (height n) a j) j) n
+-- each column is judged from the columns before it: its verdict, and whether its root is exact
+abbrev pub judgeColumn : ℕ → Triangle → ℕ → Verdict
+judgeColumn n a = λ j. columnVerdict (height n) a (cholesky (height n) a j) j
 
--- whether each column's root is exact
+abbrev pub exactColumn : ℕ → Triangle → ℕ → Bool
+exactColumn n a = λ j. columnExact a (cholesky (height n) a j) j
+
+-- codes 10 and 11, and whether every root is exact
+unfoldable pub columnsVerdict : ℕ → Triangle → Verdict
+columnsVerdict n a = lowestRefusal (judgeColumn n a) n
+
 unfoldable pub columnsExact : ℕ → Triangle → Bool
-columnsExact n a = every (λ j. columnExact a (cholesky (height n) a j) j) n
+columnsExact n a = every (exactColumn n a) n
 
 abbrev pub columnsJudged : ℕ → Triangle → Judgement
 columnsJudged n a = judgement (columnsVerdict n a) (columnsExact n a)

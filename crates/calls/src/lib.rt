@@ -71,18 +71,7 @@ pub fn joined(before: Judgement, column: Judgement) -> Judgement
     }
 }
 
-// Every call makes its result here: from its verdict where it took no root, or from what a factor's columns are judged to.
-pub fn result(verdict: Verdict) -> CallResult
-    ensures { λ r. ⌜ r ≡ Calls.resultOf verdict ⌝ }
-{
-    CallResult {
-        code: verdict.code,
-        place: verdict.place,
-        value: verdict.value,
-        exact: false,
-    }
-}
-
+// Every call makes its result here: of a factor from what its columns are judged to; where no root was taken from the verdict.
 pub fn judged_result(judgement: Judgement) -> CallResult
     ensures { λ r. ⌜ r ≡ Calls.judgedResult judgement ⌝ }
 {
@@ -92,4 +81,13 @@ pub fn judged_result(judgement: Judgement) -> CallResult
         value: judgement.verdict.value,
         exact: judgement.exact,
     }
+}
+
+pub fn result(verdict: Verdict) -> CallResult
+    ensures { λ r. ⌜ r ≡ Calls.resultOf verdict ⌝ }
+{
+    judged_result(Judgement {
+        verdict,
+        exact: false,
+    })
 }

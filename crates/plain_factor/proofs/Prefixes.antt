@@ -21,7 +21,7 @@ use Rattle.calls.specs.Triangles.{Triangle, entry, height, storeColumn, store}
 use Rattle.calls.specs.Arithmetic.{minusProducts, pivot, quotient, below, factorColumn, cholesky}
 use Rattle.calls.specs.Refusals.{success, accepted, lowestRefusal, columnRules, columnVerdict, columnExact}
 use Rattle.calls.specs.Judgements.{judgement, judgedTo}
-use Rattle.calls.specs.Calls.{columnsVerdict, columnsExact}
+use Rattle.calls.specs.Calls.{judgeColumn, exactColumn, columnsVerdict, columnsExact}
 use Rattle.calls.proofs.Sequences.{length-tabulate, getD-tabulate, tabulate-of}
 use Rattle.calls.proofs.Triangles.{entry-load, stored, store-same, store-other}
 use Rattle.calls.proofs.Columns.{columns, column-of, shaped-columns, products-same}
@@ -49,10 +49,10 @@ prefixOf n m j = store (packedPlace n) (columns n (held n m) j) m
 
 -- how column j is judged, from the columns before it
 abbrev pub ruleOf : ℕ → List Float → ℕ → Verdict
-ruleOf n m j = columnVerdict (height n) (held n m) (columns n (held n m) j) j
+ruleOf n m = judgeColumn n (held n m)
 
 abbrev pub exactOf : ℕ → List Float → ℕ → Bool
-exactOf n m j = columnExact (held n m) (columns n (held n m) j) j
+exactOf n m = exactColumn n (held n m)
 
 pub prefix-none : (n : ℕ) (m : List Float) → m ≡ prefixOf n m 0
 unfolding store cholesky grow iterate

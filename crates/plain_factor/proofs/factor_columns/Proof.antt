@@ -59,10 +59,17 @@ accepted-requires : tie.Need-accepted-requires Inv-loop μ-loop
 accepted-requires c κs = search needs
 
 same-length : tie.Need-same-length Inv-loop μ-loop
-same-length c = c .before .before .before .before .before .before .before .before .factor-column .kept .0 ∙ c .before .before .before .before .before .before .before .before .before .before .before .before .before .loop .inv .2
+same-length c =
+    let column = c .before .before .before .before .before .before .before .before .factor-column in
+    let l = c .before .before .before .before .before .before .before .before .before .before .before .before .before .loop in
+    column .kept .0 ∙ l .inv .2
 
 same-length-2 : tie.Need-same-length-2 Inv-loop μ-loop
-same-length-2 c = c .before .before .before .before .before .before .before .before .factor-column .kept .1 .0 ∙ c .before .before .before .before .before .before .before .before .before .before .before .before .before .loop .inv .1 ∙ sym (c .before .before .before .before .before .before .before .before .before .before .before .before .before .before .before .before .before .pre .2)
+same-length-2 c =
+    let column = c .before .before .before .before .before .before .before .before .factor-column in
+    let l = c .before .before .before .before .before .before .before .before .before .before .before .before .before .loop in
+    let pre = c .before .before .before .before .before .before .before .before .before .before .before .before .before .before .before .before .before .pre in
+    column .kept .1 .0 ∙ l .inv .1 ∙ sym (pre .2)
 
 -- a turn that is tested: what its columns are judged to
 turn : (c : tie.After-accepted Inv-loop μ-loop)

@@ -2,7 +2,7 @@
 -- Each place read is below the triangle's length, as both layouts are bijections. Assumes nothing.
 use Prim.Native.Nat.{ℕ, _+_, _-_, _≤_, _<_}
 use native.Mathlib.Omega.{arith}
-use mathlib.Core.Path.{_≡_, refl, sym, ap, _∙_}
+use mathlib.Core.Path.{_≡_, refl, sym, ap, _∙_, subst}
 use mathlib.Core.Bool.{true, false}
 use mathlib.Core.List.{List}
 use borrow.Author.Needs.{needs}
@@ -11,22 +11,15 @@ use lib.Dec.{T}
 use lib.ListN.{length, getD}
 use lib.Ieee.{Float, nan, ofBits}
 use Rattle.binary64.specs.Kinds.{positive, zero64}
-use Rattle.shape.specs.Layouts.{Entry, Bijection}
-use Rattle.shape.proofs.Bijections.{packed-bijection, blocked-bijection}
-use Rattle.calls.specs.declared.Layout.{Layout}
-use Rattle.calls.specs.declared.Layout.the-variants.{Packed, Blocked}
+use Rattle.shape.specs.Layouts.{Entry}
 use Rattle.calls.specs.declared.Call.the-variants.{Solver}
 use Rattle.calls.specs.Triangles.{placeOf}
 use Rattle.calls.specs.Refusals.{success, refusal, lowestRefusal, byBlocks, rule9}
 use Rattle.calls.proofs.Judging.{lowest-next, lowest-found}
+use Rattle.calls.proofs.Rearranging.{place-bijection}
 use Rattle.calls.proofs.CheckLaws.{positiveAt}
 use Rattle.checks.proofs.rules.check_diagonal.Statement.{statement}
 use Rattle.checks.proofs.rules.check_diagonal.Tie as tie
-
-place-bijection : (layout : Layout) (n b : ℕ) → (T (byBlocks (Solver layout)) → 0 < b) → Bijection (placeOf layout n b) n
-unfolding placeOf
-place-bijection Packed n b h = packed-bijection n
-place-bijection Blocked n b h = blocked-bijection n b (h tt)
 
 on-diagonal : (n j : ℕ) → j < n → Entry n j j
 on-diagonal n j h = record { lower = omega arith; inside = h }
@@ -64,7 +57,8 @@ inside c =
     let start = c .before .before .before .before .before in
     let n = start .args .shape .order in
     let j = c .before .before .before .loop .j in
-    let bijection = place-bijection (start .args .layout) n (start .args .shape .block) (start .pre .1 .0) in
+    let blocks = start .pre .1 .0 in
+    let bijection = place-bijection (start .args .layout) n (start .args .shape .block) (λ e. blocks (subst (λ l. T (byBlocks (Solver l))) (sym e) tt)) in
     omega (arith, c .place-of .ensures, bijection .below j j (on-diagonal n j (c .before .if1 .taken)), start .pre .1 .1)
 
 mul-if2 : tie.Need-mul-if2 Inv-loop μ-loop
