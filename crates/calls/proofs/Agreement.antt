@@ -21,8 +21,8 @@ use Rattle.calls.specs.declared.Layout.{Layout}
 use Rattle.calls.specs.declared.Layout.the-variants.{Packed, Blocked}
 use Rattle.calls.specs.Triangles.{Triangle, entry, placeOf, height, load, store}
 use Rattle.calls.specs.declared.Call.the-variants.{Rearranger, Factor, Solver}
-use Rattle.calls.specs.Refusals.{neededWork, success, accepted, refusal, refuseIf, firstRefusal, lowestRefusal, columnVerdict, rule5, rule6, rule7, rule8, rule9}
-use Rattle.calls.specs.Calls.{Solved, resultOf, judgedResult, succeeded, clear, rearrange, moved, columnsVerdict, columnsJudged, finished, factored, factorize, solverChecks, rhsVerdict, solutions, solved, solve}
+use Rattle.calls.specs.Refusals.{neededWork, success, accepted, refusal, refuseIf, firstRefusal, lowestRefusal, rule5, rule6, rule7, rule8, rule9}
+use Rattle.calls.specs.Calls.{Solved, resultOf, judgedResult, succeeded, clear, rearrange, moved, judgeColumn, columnsVerdict, columnsJudged, finished, factored, factorize, solverChecks, rhsVerdict, solutions, solved, solve}
 use Rattle.calls.specs.Pipelines.{Ended, plainPipeline, blockedPipeline, Start, PipelinesAgree}
 use Rattle.calls.proofs.Sequences.{all-of}
 use Rattle.calls.proofs.Triangles.{Shaped, shaped-load, length-store, store-same, load-store, store-whole}
@@ -243,7 +243,7 @@ module _ (n b m : ℕ) (matrix rhs plainWork blockedWork : List Float) (v : T (a
     factor-finite : (i j : ℕ) → Entry n i j → T (finite (entry factorOf i j))
     unfolding columnsVerdict
     factor-finite i j e =
-        columns-finite n a matrix-given n (omega arith) (lowest-accepted (λ c. columnVerdict (height n) a (columns n a c) c) n t) i j e
+        columns-finite n a matrix-given n (omega arith) (lowest-accepted (judgeColumn n a) n t) i j e
         (omega (arith, e .lower, e .inside))
 
     plain-ended :

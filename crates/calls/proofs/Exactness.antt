@@ -21,7 +21,7 @@ use Rattle.calls.specs.Sequences.{all}
 use Rattle.calls.specs.Triangles.{Triangle, entry, height, placeOf, load}
 use Rattle.calls.specs.Arithmetic.{pivot, below, cholesky}
 use Rattle.calls.specs.Refusals.{accepted, byBlocks, columnVerdict, columnExact}
-use Rattle.calls.specs.Calls.{succeeded, resultOf, judgedResult, factorChecks, columnsVerdict, columnsExact, columnsJudged, factored, factorize}
+use Rattle.calls.specs.Calls.{succeeded, resultOf, judgedResult, factorChecks, judgeColumn, exactColumn, columnsVerdict, columnsExact, columnsJudged, factored, factorize}
 use Rattle.calls.proofs.Sequences.{every-at, every-of}
 use Rattle.calls.proofs.Refusals.{lowest-accepted}
 use Rattle.calls.proofs.ColumnRules.{rules-accepted}
@@ -45,9 +45,9 @@ module _ (n : ℕ) (a : Triangle) (given : FiniteMatrix n a) (passed : T (accept
   abbrev pivotOf : ℕ → Float
   pivotOf j = pivot a (columns n a j) j
 
-  each : (j : ℕ) → j < n → T (accepted (columnVerdict (height n) a (columns n a j) j))
+  each : (j : ℕ) → j < n → T (accepted (judgeColumn n a j))
   unfolding columnsVerdict
-  each j h = lowest-accepted (λ c. columnVerdict (height n) a (columns n a c) c) n passed j h
+  each j h = lowest-accepted (judgeColumn n a) n passed j h
 
   pivot-positive : (j : ℕ) → j < n → T (positive (pivotOf j))
   pivot-positive j h = column-accepted (height n) a (columns n a j) j (each j h) .0
@@ -72,11 +72,11 @@ module _ (n : ℕ) (a : Triangle) (given : FiniteMatrix n a) (passed : T (accept
 
   all-squares : T (columnsExact n a) → (j : ℕ) → j < n → SquareIs (entry (columns n a n) j j) (pivot a (columns n a n) j)
   unfolding columnsExact squaresTo
-  all-squares t j h = eqb→eq _ _ (subst T (column-squares j h) (every-at (λ c. columnExact a (columns n a c) c) n t j h))
+  all-squares t j h = eqb→eq _ _ (subst T (column-squares j h) (every-at (exactColumn n a) n t j h))
 
   squares-all : ((j : ℕ) → j < n → SquareIs (entry (columns n a n) j j) (pivot a (columns n a n) j)) → T (columnsExact n a)
   unfolding columnsExact squaresTo
-  squares-all s = every-of (λ c. columnExact a (columns n a c) c) n (λ j h. subst T (sym (column-squares j h)) (subst T (sym (eq-eqb _ _ (s j h))) tt))
+  squares-all s = every-of (exactColumn n a) n (λ j h. subst T (sym (column-squares j h ∙ eq-eqb _ _ (s j h))) tt)
 
 -- ---- the call
 

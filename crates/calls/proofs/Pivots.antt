@@ -14,7 +14,7 @@ use Rattle.calls.specs.Sequences.{all}
 use Rattle.calls.specs.Triangles.{Triangle, height}
 use Rattle.calls.specs.Arithmetic.{pivot, below}
 use Rattle.calls.specs.Refusals.{columnVerdict}
-use Rattle.calls.specs.Calls.{columnsVerdict}
+use Rattle.calls.specs.Calls.{judgeColumn, columnsVerdict}
 use Rattle.calls.proofs.Refusals.{Lowest, lowest-refused}
 use Rattle.calls.proofs.ColumnRules.{rules-10}
 use Rattle.calls.proofs.Columns.{columns, FiniteMatrix, pivot-below, columns-finite}
@@ -26,7 +26,7 @@ pub record RefusedPivot (v : Float) : Type 0 where
 pub verdict-10 : (n : ℕ) (a : Triangle) → FiniteMatrix n a → columnsVerdict n a .code ≡ 10 → RefusedPivot (columnsVerdict n a .value)
 unfolding columnsVerdict columnVerdict
 verdict-10 n a given e =
-    let judge : ℕ → Verdict = λ j. columnVerdict (height n) a (columns n a j) j in
+    let judge : ℕ → Verdict = judgeColumn n a in
     let found : Lowest judge n (columnsVerdict n a) = lowest-refused judge n (subst (λ c. T (not (eqb c 0))) (sym e) tt) in
     let j : ℕ = found .at in
     let here : (judge j .value ≡ pivot a (columns n a j) j) × T (not (positive (pivot a (columns n a j) j))) =
