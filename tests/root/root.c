@@ -135,7 +135,7 @@ static void squares_of_54_digits(void) {
     }
 }
 
-// Values whose root's square, rounded, is the value: whole numbers that are no squares.
+// Whole numbers that are the rounded square of their root: the root is exact of those alone that are squares.
 static void rounded_squares(void) {
     for (uint64_t v = 2; v < UINT64_C(1) << 20; v++) {
         volatile double root = value_of(processor_root(bits_of((double)v)));
