@@ -93,7 +93,7 @@ module _ (judge : ℕ → Verdict) where
   lowest-all s n h = lowest-success judge n (λ k p. s k (lowest-accepted judge n h k p))
 
   -- what is refused stays refused
-  pub lowest-stays : (k d : ℕ) → accepted (lowestRefusal judge k) ≡ false → lowestRefusal judge (k + d) ≡ lowestRefusal judge k
+  lowest-stays : (k d : ℕ) → accepted (lowestRefusal judge k) ≡ false → lowestRefusal judge (k + d) ≡ lowestRefusal judge k
   unfolding lowestRefusal
   lowest-stays k zero e = rw add-zero
   lowest-stays k (suc d) e = rw (add-suc, lowest-stays k d e, e)

@@ -16,30 +16,26 @@ use Rattle.shape.specs.Layouts.{Entry}
 use Rattle.shape.proofs.Bijections.{packed-bijection}
 use Rattle.calls.specs.declared.Verdict.{Verdict}
 use Rattle.calls.specs.declared.Judgement.{Judgement}
-use Rattle.calls.specs.Sequences.{iterate, grow, all, tabulate}
+use Rattle.calls.specs.Sequences.{iterate, grow, all}
 use Rattle.calls.specs.Triangles.{Triangle, entry, height, storeColumn, store}
 use Rattle.calls.specs.Arithmetic.{minusProducts, pivot, quotient, below, factorColumn, cholesky}
 use Rattle.calls.specs.Refusals.{success, accepted, lowestRefusal, columnRules, columnVerdict, columnExact}
 use Rattle.calls.specs.Judgements.{judgement, judgedTo}
 use Rattle.calls.specs.Calls.{judgeColumn, exactColumn, columnsVerdict, columnsExact}
-use Rattle.calls.proofs.Sequences.{length-tabulate, getD-tabulate, tabulate-of}
+use Rattle.calls.proofs.Sequences.{tabulate-same}
 use Rattle.calls.proofs.Triangles.{entry-load, stored, store-same, store-other}
 use Rattle.calls.proofs.Columns.{columns, column-of, shaped-columns, products-same}
 use Rattle.calls.proofs.Judging.{lowest-next, judged-stays}
 use Rattle.calls.proofs.ColumnRules.{rules-success, rules-place}
 use Rattle.plain_factor.specs.Steps.{held, Judged, Factored}
 
--- ---- steps and tables that agree
+-- ---- steps that agree
 
 iterate-same :
     {A : Type 0} (f g : ℕ → A → A) (n : ℕ) (x : A) → ((k : ℕ) → k < n → (y : A) → f k y ≡ g k y) → iterate f n x ≡ iterate g n x
 unfolding iterate
 iterate-same f g zero x h = refl
 iterate-same f g (suc k) x h = ap (f k) (iterate-same f g k x (λ i p. h i (omega arith))) ∙ h k (omega arith) (iterate g k x)
-
-tabulate-same : {A : Type 0} (d : A) (f g : ℕ → A) (n : ℕ) → ((k : ℕ) → k < n → f k ≡ g k) → tabulate n f ≡ tabulate n g
-tabulate-same d f g n h =
-    tabulate-of f n (tabulate n g) d (length-tabulate g n) (λ k p. getD-tabulate g n k d p ∙ sym (h k p))
 
 -- ---- one column more
 
@@ -112,7 +108,7 @@ module _ (n : ℕ) (m : List Float) (size : length m ≡ triangle n) where
     prefix-below : below (height n) t j t ≡ below (height n) a j l
     unfolding below height quotient
     prefix-below =
-        tabulate-same nan (λ r. quotient t t (root (pivot t t j)) j (j + 1 + r)) (λ r. quotient a l (root (pivot a l j)) j (j + 1 + r)) (n - j - 1)
+        tabulate-same (λ r. quotient t t (root (pivot t t j)) j (j + 1 + r)) (λ r. quotient a l (root (pivot a l j)) j (j + 1 + r)) (n - j - 1)
         (λ r h. ap₂ (div binary64) (prefix-products (j + 1 + r) (omega arith) (omega arith)) (ap root prefix-pivot))
 
     prefix-rules : columnVerdict (height n) t t j ≡ columnVerdict (height n) a l j
