@@ -25,10 +25,13 @@
  *   11  a factor: an entry below an accepted pivot is not finite              the lowest refused column
  *   12  a solver: a y or an x, of the forward or backward substitution,       the lowest such right-hand side
  *       is not finite
+ *   16  a factor: a column is weak, its pivot greater than zero but not       the lowest refused column
+ *       greater than 2^-40 of a(j, j) at entry; value: the pivot
  *
- * The value is +0 except under 10, where it may be minus infinity. exact: a factor succeeds, and the square of each of its roots is the pivot exactly; so it
+ * Of a column 10 comes before 11, and 11 before 16; of several columns the lowest refused one decides. The value is +0 except under 10, where it may be minus
+ * infinity, and under 16. exact: a factor succeeds, and the square of each of its roots is the pivot exactly; so it
  * is true of an accepted order 0. It is false after every refusal, and from rearrangers and solvers, which take no root. After 1 to 9 all memory is as it was.
- * On success and after 10 to 12 the needed length of work memory is +0 and the rest as it was. */
+ * On success and after 10 to 12 and 16 the needed length of work memory is +0 and the rest as it was. */
 #ifndef METSOVARY_H
 #define METSOVARY_H
 
@@ -47,11 +50,11 @@ typedef struct { uint64_t code, place; double value; bool exact; } metsovary_res
 metsovary_result metsovary_packed_to_blocked(metsovary_shape, double *matrix, size_t, double *work, size_t);
 metsovary_result metsovary_blocked_to_packed(metsovary_shape, double *matrix, size_t, double *work, size_t);
 
-/* The factor of a packed matrix, in its own memory. Work: n values. After 10 or 11 the columns before the place are finished, the others as they were. */
+/* The factor of a packed matrix, in its own memory. Work: n values. After 10, 11 or 16 the columns before the place are finished, the others as they were. */
 metsovary_result metsovary_factor_plain(metsovary_shape, double *matrix, size_t, double *work, size_t);
 
-/* The factor of a blocked matrix, in its own memory. Work: n min(n, b) values. After 10 or 11 the block columns before the one that holds the place are
- * finished, the others as they were. */
+/* The factor of a blocked matrix, in its own memory. Work: n min(n, b) values. After 10, 11 or 16 the block columns before the one that holds the place
+ * are finished, the others as they were. */
 metsovary_result metsovary_factor_blocked(metsovary_shape, double *matrix, size_t, double *work, size_t);
 
 /* The solutions of right_sides right-hand sides of n values each, one after another in x, in their own memory, from a packed or a blocked factor. Work: n

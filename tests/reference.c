@@ -85,7 +85,7 @@ metsovary_result reference_factor(enum layout layout, metsovary_shape shape, dou
     bool exact = true;
     size_t j;
     for (j = 0; j < n && r.code == 0; j++) {
-        double *column = a + j * n;
+        double *column = a + j * n, entered = column[j];
         for (size_t k = 0; k < j; k++) {
             double x = a[j + k * n];
             for (size_t i = j; i < n; i++) {
@@ -104,6 +104,7 @@ metsovary_result reference_factor(enum layout layout, metsovary_shape shape, dou
             column[i] = column[i] / column[j];
             if (!isfinite(column[i])) r = answer(11, j, 0.0);
         }
+        if (r.code == 0 && pivot <= entered * 0x1p-40) r = answer(16, j, pivot);
         if (r.code) break;
     }
     size_t finished = r.code == 0 ? n : layout == PACKED ? j : shape.block * (j / shape.block);

@@ -61,6 +61,7 @@ def solve(n, m, matrix, rhs):
     place = lambda i, j: i + j * (2 * n - j - 1) // 2
     a = list(matrix)
     for j in range(n):
+        entered = a[place(j, j)]
         for k in range(j):
             x = a[place(j, k)]
             for i in range(j, n):
@@ -73,6 +74,8 @@ def solve(n, m, matrix, rhs):
             a[place(i, j)] /= d
         if not all(math.isfinite(a[place(i, j)]) for i in range(j + 1, n)):
             return 11, j, None, None
+        if pivot <= entered * 2.0**-40:
+            return 16, j, None, None
     x = []
     for q in range(m):
         y = rhs[q * n:(q + 1) * n]

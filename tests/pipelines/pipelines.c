@@ -7,9 +7,9 @@ static size_t triangle(size_t n) { return n * (n + 1) / 2; }
 
 static size_t needed(size_t n, size_t b) { return n * (n < b ? n : b); }
 
-enum { KINDS = 6 };
+enum { KINDS = 7 };
 
-/* a packed matrix: definite (kind 0), or with a weak, a negative or an overflowing part somewhere */
+/* a packed matrix: definite (kind 0), or with a small, a negative or an overflowing part somewhere, or with columns that nearly depend on each other */
 static void make(memory a, size_t n, unsigned kind) {
     metsovary_shape shape = {n, 1};
     for (size_t j = 0; j < n; j++)
@@ -21,6 +21,7 @@ static void make(memory a, size_t n, unsigned kind) {
             if (kind == 3 && random_bits() % (2 * n) == 0) x = ldexp(random_unit(), (int)(random_bits() % 2040) - 1030);
             if (kind == 4) x = ldexp(x, -1040);
             if (kind == 5) x = i == j ? 1.0 + ldexp(random_unit(), -30) : 1.0 - ldexp(fabs(x), -24);
+            if (kind == 6) x = i == j ? 1.0 + ldexp(random_unit(), -39) : 1.0 - ldexp(fabs(x), -42);
             if (!isfinite(x)) x = 1.0;
             a.values[place(PACKED, shape, i, j)] = x;
         }
@@ -181,6 +182,63 @@ static void two_refusals(size_t n, size_t b, size_t p, size_t q) {
     memory_free(v);
 }
 
+/* ---- weak columns ---- */
+
+/* The pivot of this column, from which three products are subtracted, is 2^-40 of its diagonal value (neighbour 0), or the value next below (-1) or above (1). */
+static void at_bound(size_t n, size_t b, size_t column, int neighbour, int scale) {
+    metsovary_shape shape = {n, b};
+    memory a = memory_new(triangle(n));
+    for (size_t j = 0; j < n; j++) a.values[place(PACKED, shape, j, j)] = 1.0;
+    /* 1 - (1 - 2^-40)^2 is 2^-39; then 2^-40 goes, or 2^-40 - 2^-92; then a little more than half a unit, or nothing */
+    a.values[place(PACKED, shape, column, 0)] = ldexp(1.0 - 0x1p-40, scale);
+    a.values[place(PACKED, shape, column, column / 2)] = ldexp(neighbour > 0 ? 1.0 - 0x1p-53 : 1.0, scale - 20);
+    a.values[place(PACKED, shape, column, column - 1)] = neighbour < 0 ? ldexp(1.05, scale - 47) : 0.0;
+    a.values[place(PACKED, shape, column, column)] = ldexp(1.0, 2 * scale);
+    double bound = ldexp(1.0, 2 * scale - 40);
+    metsovary_result r = both(shape, 0, a, memory_new(0), true);
+    expect(neighbour > 0 ? r.code == 0 : r.code == 16 && r.place == column && to_bits(r.value) == to_bits(bound) + (uint64_t)neighbour,
+        "n %zu b %zu: column %zu at the bound %+d: %llu %llu %016llx", n, b, column, neighbour, (unsigned long long)r.code, (unsigned long long)r.place,
+        (unsigned long long)to_bits(r.value));
+}
+
+/* A = L·Lᵀ of whole numbers, none of them 0, but in this column, whose diagonal value is the upper neighbour of the sum of the squares before it. The difference is
+ * the pivot, without rounding. */
+static void weak_column(size_t n, size_t b, size_t column) {
+    metsovary_shape shape = {n, b};
+    memory l = memory_new(triangle(n)), a = memory_new(triangle(n));
+    for (size_t k = 0; k < l.length; k++) l.values[k] = 1.0 + (double)(random_bits() % 9);
+    for (size_t j = 0; j < n; j++)
+        for (size_t i = j; i < n; i++) {
+            double sum = 0.0;
+            for (size_t k = 0; k < j + !(i == j && j == column); k++) sum += l.values[place(PACKED, shape, i, k)] * l.values[place(PACKED, shape, j, k)];
+            a.values[place(PACKED, shape, i, j)] = sum;
+        }
+    size_t diagonal = place(PACKED, shape, column, column);
+    double sum = a.values[diagonal];
+    a.values[diagonal] = nextafter(sum, INFINITY);
+    double pivot = a.values[diagonal] - sum;
+    metsovary_result r = both(shape, 0, a, memory_new(0), true);
+    expect(r.code == 16 && r.place == column && to_bits(r.value) == to_bits(pivot), "n %zu b %zu: column %zu weak: %llu %llu %016llx", n, b, column, (unsigned long long)r.code,
+        (unsigned long long)r.place, (unsigned long long)to_bits(r.value));
+    memory_free(l);
+}
+
+/* A weak column p, and 10 or 11 in column q: the lower of the two decides, and in one column 10 and 11 do. */
+static void weak_and_refused(size_t n, size_t b, size_t p, uint64_t code, size_t q) {
+    metsovary_shape shape = {n, b};
+    memory a = memory_new(triangle(n));
+    for (size_t j = 0; j < n; j++) a.values[place(PACKED, shape, j, j)] = 4.0;
+    a.values[place(PACKED, shape, p, 0)] = 2.0;
+    a.values[place(PACKED, shape, p, p)] = 1.0 + 0x1p-52;
+    if (code == 10) a.values[place(PACKED, shape, q, q)] = -3.0;
+    if (code == 11 && p != q) a.values[place(PACKED, shape, q, q)] = ldexp(1, -1000);
+    if (code == 11) a.values[place(PACKED, shape, n - 1, q)] = ldexp(1, p == q ? 1000 : 600);
+    metsovary_result r = both(shape, 0, a, memory_new(0), true);
+    bool weak = p < q;
+    expect(r.code == (weak ? 16 : code) && r.place == (weak ? p : q), "n %zu b %zu: 16 at %zu and %llu at %zu: %llu %llu", n, b, p, (unsigned long long)code, q,
+        (unsigned long long)r.code, (unsigned long long)r.place);
+}
+
 static void blocked_refusals(size_t n, size_t b) {
     metsovary_shape shape = {n, b};
     size_t m = 3;
@@ -254,6 +312,31 @@ int main(void) {
                     if (p != q) two_refusals(n, b, p, q);
     for (size_t p = 0; p <= 37; p += 4)
         for (size_t q = 1; q <= 37; q += 4) two_refusals(37, 20, p, q);
+    group("16: pivots at the bound and one unit on either side");
+    for (size_t n = 4; n <= 40; n += n < 12 ? 1 : 7)
+        for (size_t b = 1; b <= n + 1; b++)
+            for (size_t column = 3; column < n; column += 1 + n / 12)
+                for (int neighbour = -1; neighbour <= 1; neighbour++)
+                    for (int scale = -300; scale <= 300; scale += 300) at_bound(n, b, column, neighbour, scale);
+    group("16: every column weak in turn");
+    for (size_t n = 2; n <= 12; n++)
+        for (size_t b = 1; b <= n + 1; b++)
+            for (size_t column = 1; column < n; column++) weak_column(n, b, column);
+    for (size_t k = 0; k < BLOCKS; k++)
+        for (size_t column = 1; column < 263; column += 29) weak_column(263, block_length(k), column);
+    group("16 with 10 or 11 in every pair of columns");
+    for (size_t n = 2; n <= 9; n++)
+        for (size_t b = 1; b <= n + 1; b++)
+            for (size_t p = 1; p < n; p++)
+                for (size_t q = 0; q < n; q++) {
+                    weak_and_refused(n, b, p, 10, q);
+                    if (q + 1 < n) weak_and_refused(n, b, p, 11, q);
+                }
+    for (size_t p = 1; p < 37; p += 3)
+        for (size_t q = 0; q + 1 < 37; q += 3) {
+            weak_and_refused(37, 20, p, 10, q);
+            weak_and_refused(37, 20, p, 11, q);
+        }
     group("blocked refusals 2 to 9 and 12");
     for (size_t n = 1; n <= 7; n++)
         for (size_t b = 1; b <= 8; b++) blocked_refusals(n, b);

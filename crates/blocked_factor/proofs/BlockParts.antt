@@ -17,17 +17,18 @@ use Rattle.shape.proofs.Columns.{triangle-exact}
 use Rattle.shape.proofs.Blocks.{block-of-le, block-of-lt, block-of-block, block-of-next, block-before, block-end, width-le, width-le-block, width-full, width-last, blocked-place-at, blocked-place-block}
 use Rattle.shape.proofs.Bounds.{block-start-mono}
 use Rattle.calls.specs.declared.Judgement.{Judgement}
-use Rattle.calls.specs.Triangles.{Triangle}
+use Rattle.calls.specs.Triangles.{Triangle, entry}
 use Rattle.calls.specs.Arithmetic.{minusProducts}
 use Rattle.calls.specs.Refusals.{accepted}
 use Rattle.calls.proofs.Columns.{products-same}
 use Rattle.kernels.specs.Kernels.{Filled, Replaced, rowAt}
 use Rattle.kernels.proofs.Parts.{getD-part}
 use Rattle.kernels.proofs.Runs.{square-ge}
-use Rattle.blocked_factor.specs.BlockColumns.{rowStart, PanelUpdated}
+use Rattle.blocked_factor.specs.BlockColumns.{rowStart, SameTo, PanelUpdated}
 use Rattle.blocked_factor.specs.BlockStages.{factorEntry, lessProducts, Stage, allRows, BlockColumnFactored}
 use Rattle.blocked_factor.specs.BlockSteps.{BlockAt, rowOf, FactoredTo, BlockFactored, BlockDone}
 use Rattle.blocked_factor.proofs.BlockRows.{row-lt}
+use Rattle.blocked_factor.proofs.Finishing.{entered-same}
 use Rattle.blocked_factor.proofs.EarlierBlocks.{inside-le, block-room, place-before}
 
 -- ---- places
@@ -64,9 +65,10 @@ module _ {n b c len : ℕ} (here : BlockAt n b c len) where
 -- ---- the block column
 
 module _
-    {n b c : ℕ} {m m₁ m₂ q : List Float} {before answer : Judgement} (here : BlockAt n b c (length m))
+    {n b c : ℕ} {saved saved₁ m m₁ m₂ q : List Float} {before answer : Judgement} (here : BlockAt n b c (length m))
+    (same : SameTo (rowStart (width n b c) (n - c)) saved saved₁)
     (update : PanelUpdated (blockStart n c) (width n b c) (n - c) 0 (width n b c) (rowOf n b c m) c m m₁)
-    (factored : BlockColumnFactored c (width n b c) (n - c) before (take (length m₁ - blockStart n c) (drop (blockStart n c) m₁)) answer q)
+    (factored : BlockColumnFactored c (width n b c) (n - c) saved₁ before (take (length m₁ - blockStart n c) (drop (blockStart n c) m₁)) answer q)
     (lent : Replaced nan (blockStart n c) (length m₁ - blockStart n c) m₁ q m₂) where
   abbrev start : ℕ
   start = blockStart n c
@@ -143,14 +145,15 @@ module _
               high-kept (blockedPlace n b i j) (place-after here i j e high) ∙ known .entries i j e (omega arith);
         }
 
-  pub block-factored : BlockFactored n b c before m answer m₂
+  pub block-factored : BlockFactored n b c saved before m answer m₂
   block-factored =
       record {
         kept = lent .size ∙ update .kept;
         earlier = low-kept;
         later = high-kept;
         finished = block-finished;
-        judged = λ a known. factored .judgement n a (order a known) (stage a known);
+        judged = λ entered a known.
+            factored .judgement n a (order a known) (stage a known) (entered-same (width-le n b c) same (entered a known));
       }
 
 -- ---- entry values kept and put back
@@ -192,27 +195,39 @@ module _ {n b c len : ℕ} (here : BlockAt n b c len) where
       )
 
 module _
-    {n b c : ℕ} {m m₁ : List Float} {before answer : Judgement} (factored : BlockFactored n b c before m answer m₁) where
+    {n b c : ℕ} {m m₁ work₀ work : List Float} {before answer : Judgement} {start size : ℕ} (here : BlockAt n b c (length m)) (es : start ≡ blockStart n c)
+    (ez : size ≡ rowStart (width n b c) (n - c)) (saved : Filled nan 0 size (rowAt m start) work₀ work)
+    (factored : BlockFactored n b c work before m answer m₁) where
+  -- the entry values go to the work memory
+  saved-diagonal : (a : Triangle) → FactoredTo n b a c m → (s : ℕ) → s < width n b c → getD work (rowStart (width n b c) s + s) nan ≡ entry a (c + s) (c + s)
+  saved-diagonal a known s narrow =
+      let low : c + s < n = omega (arith, width-le n b c, here .inside) in
+      let inside : rowStart (width n b c) s + s < size = omega (arith, row-lt (width n b c) s (n - c) s (omega arith) (omega arith)) in
+      let place : start + (rowStart (width n b c) s + s) ≡ blockedPlace n b (c + s) (c + s) = omega (arith, place-here here s s narrow) in
+      let front : 0 + (rowStart (width n b c) s + s) ≡ rowStart (width n b c) s + s = omega arith in
+      (rw front at (saved .inside (rowStart (width n b c) s + s) inside))
+      ∙ ap (λ p. getD m p nan) place
+      ∙ known .entries (c + s) (c + s) (record { lower = omega arith; inside = low }) (omega arith)
+
   pub done-accepted : accepted (answer .verdict) ≡ true → BlockDone n b c before m answer m₁
   done-accepted passed =
       record {
         kept = factored .kept;
         restored = λ refused. absurd (subst (λ x. T x) (sym passed ∙ refused) tt);
         finished = λ t. factored .finished;
-        judged = factored .judged;
+        judged = factored .judged (λ a known. record { diagonal = saved-diagonal a known });
       }
 
-  -- the entry values go to the work memory, stay there, and come back
+  -- stay there, and come back
   pub done-refused :
-      {m₂ work₀ work work′ : List Float} {spare : ℕ → Float} {start size rest : ℕ} → start ≡ blockStart n c → size ≡ rowStart (width n b c) (n - c) →
-      accepted (answer .verdict) ≡ false → Filled nan 0 size (rowAt m start) work₀ work → Filled nan size rest spare work work′ →
-      Filled nan start size (rowAt work′ 0) m₁ m₂ → BlockDone n b c before m answer m₂
-  done-refused {m₂} {start = start} {size = size} es ez refused saved lent filled =
+      {m₂ work′ : List Float} → accepted (answer .verdict) ≡ false → SameTo (rowStart (width n b c) (n - c)) work work′ → Filled nan start size (rowAt work′ 0) m₁ m₂ →
+      BlockDone n b c before m answer m₂
+  done-refused {m₂} refused same filled =
       record {
         kept = filled .size ∙ factored .kept;
         restored = λ again. ext-getD nan m₂ m (filled .size ∙ factored .kept) (λ p room. at p (decLt p start) (decLt p (start + size)));
         finished = λ t. absurd (subst (λ x. T x) (sym t ∙ refused) tt);
-        judged = factored .judged;
+        judged = factored .judged (λ a known. record { diagonal = saved-diagonal a known });
       }
     where
       at : (p : ℕ) → Dec (p < start) → Dec (p < start + size) → getD m₂ p nan ≡ getD m p nan
@@ -221,6 +236,6 @@ module _
       at p (no low) (yes inside) =
           let place : start + (p - start) ≡ p = omega arith in
           let value : getD m₂ (start + (p - start)) nan ≡ getD m (start + (p - start)) nan =
-          filled .inside (p - start) (omega arith) ∙ lent .before (0 + (p - start)) (omega arith) ∙ saved .inside (p - start) (omega arith)
+          filled .inside (p - start) (omega arith) ∙ same .at (0 + (p - start)) (omega arith) ∙ saved .inside (p - start) (omega arith)
           in
           rw place at value

@@ -4,7 +4,7 @@ use Prim.Native.Nat.{ℕ, suc, _+_, _-_, _≤_, _<_}
 use native.Mathlib.Nat.{add-zero}
 use native.Mathlib.Omega.{arith}
 use native.Mathlib.Decide.{decLt}
-use mathlib.Core.Path.{_≡_, refl, sym, ap, _∙_, subst}
+use mathlib.Core.Path.{_≡_, refl, sym, ap, ap₂, _∙_, subst}
 use mathlib.Core.Logic.{_⊎_, inl, inr}
 use mathlib.Core.Bool.{Bool, true, false, not, _&&_, and-true}
 use mathlib.Core.List.{List, [], _∷_}
@@ -16,31 +16,31 @@ use lib.Ieee.Bits.{is-true}
 use Rattle.binary64.specs.Kinds.{finite}
 use Rattle.binary64.specs.Root.{root, exact}
 use Rattle.binary64.specs.Judged.{judged}
-use Rattle.binary64.specs.declared.Pivot.the-variants.{Root}
 use Rattle.calls.specs.declared.Verdict.{Verdict}
 use Rattle.calls.specs.declared.Judgement.{Judgement}
 use Rattle.calls.specs.Sequences.{grow, tabulate, all, every}
-use Rattle.calls.specs.Triangles.{Triangle, height}
+use Rattle.calls.specs.Triangles.{Triangle, entry, height}
 use Rattle.calls.specs.Arithmetic.{pivot, quotient, below}
-use Rattle.calls.specs.Refusals.{success, accepted, lowestRefusal, columnRules, columnVerdict}
+use Rattle.calls.specs.Refusals.{success, accepted, lowestRefusal, rule11, columnRules, columnVerdict}
 use Rattle.calls.specs.Judgements.{judgement}
 use Rattle.calls.specs.Calls.{judgeColumn, exactColumn}
 use Rattle.calls.proofs.Sequences.{length-tabulate, getD-tabulate, tabulate-same, all-append, all-at, all-of}
 use Rattle.calls.proofs.Columns.{columns, entry-quotient}
 use Rattle.calls.proofs.Refusals.{Lowest, lowest-success, lowest-same, lowest-accepted, lowest-refused}
 use Rattle.calls.proofs.Judging.{lowest-found}
-use Rattle.calls.proofs.ColumnRules.{rules-success, rules-place, rules-pivot, rules-below, rules-root, rules-accepted}
-use Rattle.blocked_factor.specs.BlockColumns.{rowStart, columnFinite, LowestOverflow}
+use Rattle.calls.proofs.ColumnRules.{rules-success, rules-place, rules-value, rules-below, rules-not-finite, rules-accepted}
+use Rattle.blocked_factor.specs.BlockColumns.{rowStart, SameTo, columnFinite, LowestOverflow}
 use Rattle.blocked_factor.specs.BlockStages.{judgePivot, columnsTo, pivotsTo, Stage, allRows, ColumnsFinished, BlockColumnJudged, BlockColumnFactored}
 use Rattle.blocked_factor.proofs.BlockRows.{row-lt}
+use Rattle.blocked_factor.proofs.Finishing.{entered-same}
 
 pub judge-success : (n : ℕ) (a : Triangle) (j : ℕ) → T (accepted (judgeColumn n a j)) → judgeColumn n a j ≡ success
 unfolding columnVerdict
-judge-success n a j t = rules-success j _ _ t
+judge-success n a j t = rules-success j _ _ _ t
 
 judge-place : (n : ℕ) (a : Triangle) (j : ℕ) → accepted (judgeColumn n a j) ≡ false → judgeColumn n a j .place ≡ j
 unfolding columnVerdict
-judge-place n a j e = rules-place j _ _ e
+judge-place n a j e = rules-place j _ _ _ e
 
 -- a refusal's place is that of a refused column
 pub lowest-place :
@@ -63,7 +63,7 @@ module _ (n : ℕ) (a : Triangle) (c : ℕ) (before : lowestRefusal (judgeColumn
   same-before j low =
       let x : Float = pivot a (columns n a j) j in
       let ok : T (accepted (judgeColumn n a j)) = lowest-accepted (judgeColumn n a) c (subst (λ r. T (accepted r)) (sym before) tt) j low in
-      ap (columnRules j (judged x)) (is-true _ (rules-accepted j x _ ok .1))
+      ap (columnRules j (entry a j j) x) (is-true _ (rules-accepted j (entry a j j) x _ ok .1))
 
   pivots-before : lowestRefusal (judgePivot n a) c ≡ success
   pivots-before = sym (lowest-same (judgeColumn n a) (judgePivot n a) c same-before) ∙ before
@@ -122,9 +122,12 @@ module _
       ∙ entry-quotient n a n (c + (k + 1 + i)) (c + k) (omega arith) (omega arith) (omega arith)
       ∙ ap (quotient a (columns n a (c + k)) (root (pivotOf (c + k))) (c + k)) row))
 
-  column-judged : (k : ℕ) → k < w → judgeColumn n a (c + k) ≡ columnRules (c + k) (judged (pivotOf (c + k))) (columnFinite w h m k)
+  abbrev rulesOf : ℕ → Bool → Verdict
+  rulesOf j = columnRules j (entry a j j) (pivotOf j)
+
+  column-judged : (k : ℕ) → k < w → judgeColumn n a (c + k) ≡ rulesOf (c + k) (columnFinite w h m k)
   unfolding columnVerdict
-  column-judged k narrow = ap (columnRules (c + k) (judged (pivotOf (c + k)))) (sym (finite-below k narrow))
+  column-judged k narrow = ap (rulesOf (c + k)) (sym (finite-below k narrow))
 
   -- ---- columns before the overflow are judged by their pivots alone
 
@@ -137,13 +140,13 @@ module _
             let few : j - c < s = omega arith in
             let equal : judgeColumn n a (c + (j - c)) ≡ judgePivot n a (c + (j - c)) =
             column-judged (j - c) (omega (arith, overflow .inside))
-            ∙ ap (columnRules (c + (j - c)) (judged (pivotOf (c + (j - c))))) (is-true _ (overflow .before (j - c) few))
+            ∙ ap (rulesOf (c + (j - c))) (is-true _ (overflow .before (j - c) few))
             in
             rw here at equal
       ]
 
   pivots-pass : (k : ℕ) → ((j : ℕ) → j < k → T (accepted (judgePivot n a j))) → lowestRefusal (judgePivot n a) k ≡ success
-  pivots-pass k each = lowest-success (judgePivot n a) k (λ j low. rules-success j (judged (pivotOf j)) true (each j low))
+  pivots-pass k each = lowest-success (judgePivot n a) k (λ j low. rules-success j (entry a j j) (pivotOf j) true (each j low))
 
   columns-pass : (j : ℕ) → j ≤ c + s → ((i : ℕ) → i < j → T (accepted (judgePivot n a i))) → lowestRefusal (judgeColumn n a) j ≡ success
   columns-pass j low each = lowest-same (judgeColumn n a) (judgePivot n a) j (λ i few. same i (omega arith)) ∙ pivots-pass j each
@@ -168,60 +171,35 @@ module _
         let found : Found = refusal-of refused in
         let here : first ≡ judgePivot n a (found .at) = e ∙ found .there in
         ap (λ (v : Verdict). v .place) here
-        ∙ rules-place (found .at) (judged (pivotOf (found .at))) true (ap (λ r. accepted r) (sym here) ∙ refused)
+        ∙ rules-place (found .at) (entry a (found .at) (found .at)) (pivotOf (found .at)) true (ap (λ r. accepted r) (sym here) ∙ refused)
 
-    -- a pivot refuses its column, and no column before it overflows
-    verdict-pivot : s < w → accepted first ≡ false → first .place ≤ c + s → first ≡ lowestRefusal (judgeColumn n a) (c + w)
-    verdict-pivot narrow refused low =
+    -- a pivot refuses its column, before any column overflows
+    verdict-pivot : accepted first ≡ false → first .place < c + s → first ≡ lowestRefusal (judgeColumn n a) (c + w)
+    verdict-pivot refused low =
         let found : Found = refusal-of refused in
         let j : ℕ = found .at in
         let here : first ≡ judgePivot n a j = e ∙ found .there in
-        let fails : accepted (judgePivot n a j) ≡ false = ap (λ r. accepted r) (sym here) ∙ refused in
-        let le : j ≤ c + s = omega (arith, place-of refused) in
-        let equal : judgeColumn n a j ≡ judgePivot n a j = at j le fails (decLt j (c + s)) in
+        let lt : j < c + s = omega (arith, place-of refused) in
+        let equal : judgeColumn n a j ≡ judgePivot n a j = same j lt in
         here
         ∙ sym equal
         ∙ sym
-        (lowest-found (judgeColumn n a) j (c + w) (found .inside) (columns-pass j le (found .before)) (ap (λ r. accepted r) equal ∙ fails))
-      where
-        at : (j : ℕ) → j ≤ c + s → accepted (judgePivot n a j) ≡ false → Dec (j < c + s) → judgeColumn n a j ≡ judgePivot n a j
-        at j le fails (yes p) = same j p
-        at j le fails (no p) =
-            let here : c + s ≡ j = omega arith in
-            let judged-here : judgeColumn n a j ≡ columnRules j (judged (pivotOf j)) (columnFinite w h m s) = (rw here at (column-judged s narrow)) in
-            judged-here ∙ rules-pivot j (judged (pivotOf j)) (columnFinite w h m s) fails
+        (lowest-found (judgeColumn n a) j (c + w) (found .inside) (columns-pass j (omega arith) (found .before))
+        (ap (λ r. accepted r) (equal ∙ sym here) ∙ refused))
 
-    -- the overflow decides where no pivot up to its column refuses
-    verdict-below :
-        s < w → ((j : ℕ) → j < suc (c + s) → T (accepted (judgePivot n a j))) → (d : Float) (t : Bool) →
-        (columnRules (c + s) (Root d t) false ≡ lowestRefusal (judgeColumn n a) (c + w)) × (accepted (lowestRefusal (judgeColumn n a) (c + w)) ≡ false)
-    verdict-below narrow each d t =
-        let x : Float = pivotOf (c + s) in
-        let passes : T (accepted (judgePivot n a (c + s))) = each (c + s) (omega arith) in
-        let rooted : judged x ≡ Root (root x) (exact x) = rules-accepted (c + s) x true passes .0 in
-        let equal : judgeColumn n a (c + s) ≡ columnRules (c + s) (judged x) false =
-        column-judged s narrow ∙ ap (columnRules (c + s) (judged x)) (overflow .here narrow)
+    -- else the overflow's column decides, and is refused
+    overflow-decides :
+        s < w → ((j : ℕ) → j < c + s → T (accepted (judgePivot n a j))) →
+        (rulesOf (c + s) false ≡ lowestRefusal (judgeColumn n a) (c + w)) × (accepted (lowestRefusal (judgeColumn n a) (c + w)) ≡ false)
+    overflow-decides narrow each =
+        let equal : judgeColumn n a (c + s) ≡ rulesOf (c + s) false = column-judged s narrow ∙ ap (rulesOf (c + s)) (overflow .here narrow) in
+        let refused : accepted (judgeColumn n a (c + s)) ≡ false =
+        ap (λ r. accepted r) equal ∙ rules-not-finite (c + s) (entry a (c + s) (c + s)) (pivotOf (c + s))
         in
-        let refused : accepted (judgeColumn n a (c + s)) ≡ false = ap (λ r. accepted r) equal ∙ rules-below (c + s) (judged x) passes in
         let found : lowestRefusal (judgeColumn n a) (c + w) ≡ judgeColumn n a (c + s) =
-        lowest-found (judgeColumn n a) (c + s) (c + w) (omega arith) (columns-pass (c + s) (omega arith) (λ j low. each j (omega arith))) refused
-        in (
-          rules-root (c + s) d (root x) t (exact x) false
-              ∙ ap (λ p. columnRules (c + s) p false) (sym rooted)
-              ∙ sym equal
-              ∙ sym found,
-          ap (λ r. accepted r) found ∙ refused,
-        )
-
-    verdict-overflow :
-        s < w → (accepted first ≡ true) ⊎ ((accepted first ≡ false) × (c + s < first .place)) → (d : Float) (t : Bool) →
-        (columnRules (c + s) (Root d t) false ≡ lowestRefusal (judgeColumn n a) (c + w)) × (accepted (lowestRefusal (judgeColumn n a) (c + w)) ≡ false)
-    verdict-overflow narrow (inl passed) =
-        verdict-below narrow
-        (λ j low.
-        lowest-accepted (judgePivot n a) (c + w) (subst (λ r. T (accepted r)) e (subst T (sym passed) tt)) j (omega arith))
-    verdict-overflow narrow (inr refused) =
-        verdict-below narrow (λ j low. refusal-of (refused .0) .before j (omega (arith, place-of (refused .0), refused .1)))
+        lowest-found (judgeColumn n a) (c + s) (c + w) (omega arith) (columns-pass (c + s) (omega arith) each) refused
+        in
+        (sym (found ∙ equal), ap (λ r. accepted r) found ∙ refused)
 
   -- ---- what the columns are judged to
 
@@ -235,29 +213,61 @@ module _
     pub judged-first : s ≡ w → first ≡ columnsTo n a (c + w)
     judged-first end = judged-same (verdict-first (first .verdict) verdict-is end)
 
-    pub judged-pivot : s < w → accepted (first .verdict) ≡ false → first .verdict .place ≤ c + s → first ≡ columnsTo n a (c + w)
-    judged-pivot narrow refused low = judged-same (verdict-pivot (first .verdict) verdict-is narrow refused low)
+    pub judged-pivot : accepted (first .verdict) ≡ false → first .verdict .place < c + s → first ≡ columnsTo n a (c + w)
+    judged-pivot refused low = judged-same (verdict-pivot (first .verdict) verdict-is refused low)
 
-    pub judged-overflow :
-        s < w → (accepted (first .verdict) ≡ true) ⊎ ((accepted (first .verdict) ≡ false) × (c + s < first .verdict .place)) → (d : Float) (t : Bool) →
-        judgement (columnRules (c + s) (Root d t) false) t ≡ columnsTo n a (c + w)
-    judged-overflow narrow decided d t =
-        let found = verdict-overflow (first .verdict) verdict-is narrow decided d t in
-        rw (found .0, found .1) refl
+    judged-refused : (v : Verdict) (t : Bool) → v ≡ lowestRefusal (judgeColumn n a) (c + w) → accepted (lowestRefusal (judgeColumn n a) (c + w)) ≡ false → judgement v t ≡ columnsTo n a (c + w)
+    judged-refused v t is refused = rw (is, refused) refl
+
+    -- a pivot refuses the overflow's column itself, and is the value
+    pub judged-again :
+        s < w → accepted (first .verdict) ≡ false → first .verdict .place ≡ c + s → (entered : Float) → entered ≡ entry a (c + s) (c + s) → (t : Bool) →
+        judgement (columnRules (c + s) entered (first .verdict .value) false) t ≡ columnsTo n a (c + w)
+    judged-again narrow refused here entered own t =
+        let found : Found (first .verdict) verdict-is = refusal-of (first .verdict) verdict-is refused in
+        let at : found .at ≡ c + s = sym (place-of (first .verdict) verdict-is refused) ∙ here in
+        let is : first .verdict ≡ rulesOf (c + s) true = rw at at (verdict-is ∙ found .there) in
+        let value : first .verdict .value ≡ pivotOf (c + s) =
+        ap (λ (v : Verdict). v .value) is
+        ∙ rules-value (c + s) (entry a (c + s) (c + s)) (pivotOf (c + s)) (ap (λ r. accepted r) (sym is) ∙ refused)
+        in
+        let decided = overflow-decides (first .verdict) verdict-is narrow (λ j low. found .before j (omega (arith, at))) in
+        judged-refused _ t (ap₂ (λ v x. columnRules (c + s) v x false) own value ∙ decided .0) (decided .1)
+
+    -- no pivot up to the overflow's column refuses
+    pub judged-below :
+        s < w → (accepted (first .verdict) ≡ true) ⊎ ((accepted (first .verdict) ≡ false) × (c + s < first .verdict .place)) →
+        record { verdict = rule11 (c + s) false; exact = false } ≡ columnsTo n a (c + w)
+    judged-below narrow decided =
+        let each : (j : ℕ) → j < suc (c + s) → T (accepted (judgePivot n a j)) = passing decided in
+        let found = overflow-decides (first .verdict) verdict-is narrow (λ j low. each j (omega arith)) in
+        let only : rulesOf (c + s) false ≡ rule11 (c + s) false =
+        rules-below (c + s) (entry a (c + s) (c + s)) (pivotOf (c + s)) (each (c + s) (omega arith))
+        in
+        rw (← only, found .0, found .1) refl
+      where
+        passing :
+            (accepted (first .verdict) ≡ true) ⊎ ((accepted (first .verdict) ≡ false) × (c + s < first .verdict .place)) →
+            (j : ℕ) → j < suc (c + s) → T (accepted (judgePivot n a j))
+        passing (inl passed) j low =
+            lowest-accepted (judgePivot n a) (c + w) (subst (λ r. T (accepted r)) verdict-is (subst T (sym passed) tt)) j (omega arith)
+        passing (inr refused) j low =
+            refusal-of (first .verdict) verdict-is (refused .0) .before j (omega (arith, place-of (first .verdict) verdict-is (refused .0), refused .1))
 
 -- ---- values, and then what the columns are judged to
 
 pub block-column-factored :
-    (c w h : ℕ) (m m′ : List Float) (before first answer : Judgement) → ColumnsFinished c w h 0 w before m first m′ → BlockColumnJudged c w h first m′ answer →
-    BlockColumnFactored c w h before m answer m′
-block-column-factored c w h m m′ before first answer columns judged =
+    (c w h : ℕ) (saved saved₁ m m′ : List Float) (before first answer : Judgement) → w ≤ h → SameTo (rowStart w h) saved saved₁ →
+    ColumnsFinished c w h 0 w saved before m first m′ → BlockColumnJudged c w h saved₁ first m′ answer → BlockColumnFactored c w h saved before m answer m′
+block-column-factored c w h saved saved₁ m m′ before first answer tall same columns judged =
     record {
       kept = columns .kept;
       beyond = columns .beyond;
       stage = columns .stage;
-      judgement = λ n a order stage passed is.
+      judgement = λ n a order stage entered passed is.
           let by-pivots : before ≡ pivotsTo n a c =
           is ∙ ap (λ r. judgement r (every (exactColumn n a) c)) (passed ∙ sym (pivots-before n a c passed))
           in
-          judged n a order (columns .stage n a order stage) passed (columns .judgement n a order stage (rw add-zero by-pivots));
+          judged n a order (columns .stage n a order stage) (entered-same tall same entered) passed
+          (columns .judgement n a order stage entered (rw add-zero by-pivots));
     }

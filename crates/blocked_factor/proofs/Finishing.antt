@@ -16,14 +16,14 @@ use Rattle.binary64.specs.Judged.{judged, exactRoot}
 use Rattle.binary64.specs.declared.Pivot.{Pivot}
 use Rattle.binary64.specs.declared.Pivot.the-variants.{Root, Refused}
 use Rattle.calls.specs.declared.Judgement.{Judgement}
-use Rattle.calls.specs.Triangles.{Triangle}
+use Rattle.calls.specs.Triangles.{Triangle, entry}
 use Rattle.calls.specs.Arithmetic.{minusProducts}
 use Rattle.calls.specs.Refusals.{columnRules, columnExact}
 use Rattle.calls.specs.Judgements.{judgement, Joined}
 use Rattle.calls.specs.Calls.{exactColumn}
-use Rattle.kernels.specs.Kernels.{Scattered, rowAt}
-use Rattle.blocked_factor.specs.BlockColumns.{rowStart, lessPanel, PanelUpdated, ColumnDivided, rootOf}
-use Rattle.blocked_factor.specs.BlockStages.{judgePivot, pivotsTo, Stage, allRows, rowsTo, topRows, RowsFinished, DiagonalFinished, TriangleFinished, BelowFinished, ColumnsFinished}
+use Rattle.kernels.specs.Kernels.{Filled, Scattered, rowAt}
+use Rattle.blocked_factor.specs.BlockColumns.{rowStart, SameTo, lessPanel, PanelUpdated, ColumnDivided, rootOf}
+use Rattle.blocked_factor.specs.BlockStages.{judgePivot, pivotsTo, Entered, Stage, allRows, rowsTo, topRows, RowsFinished, DiagonalFinished, TriangleFinished, BelowFinished, ColumnsFinished}
 use Rattle.blocked_factor.proofs.BlockRows.{row-next, row-mono, row-lt, row-apart}
 use Rattle.blocked_factor.proofs.Stages.{rows-in, rows-above, rows-under, stage-same, panel-pivot, panel-root, panel-quotient, stage-next, stage-updated, stage-all}
 
@@ -139,20 +139,22 @@ root-of x = go (positive x)
     go true = refl
     go false = refl
 
-module _ (c w s0 s : ℕ) (before answer : Judgement) (m : List Float) (left : s0 ≤ s) (narrow : s < w) (room : rowStart w (s + 1) ≤ length m) where
+module _
+    (c w s0 s : ℕ) (saved : List Float) (before answer : Judgement) (m : List Float) (left : s0 ≤ s) (narrow : s < w)
+    (room : rowStart w (s + 1) ≤ length m) where
   pub diagonal-finished :
-      (q : Pivot) →
-      q
-      ≡ judged
-      (minusProducts (rowAt m (rowStart w s + s0)) (rowAt m (rowStart w s + s0)) (s - s0) (getD m (rowStart w s + s0 + (s - s0)) nan)) →
-      Joined before (judgement (columnRules (c + s) q true) (exactRoot q)) answer →
-      DiagonalFinished c w s0 s before m answer (set m (rowStart w s + s0 + (s - s0)) (rootOf q))
+      (x : Float) (q : Pivot) →
+      x ≡ minusProducts (rowAt m (rowStart w s + s0)) (rowAt m (rowStart w s + s0)) (s - s0) (getD m (rowStart w s + s0 + (s - s0)) nan) →
+      q ≡ judged x →
+      Joined before (judgement (columnRules (c + s) (getD saved (rowStart w s + s0 + (s - s0)) nan) x true) (exactRoot q)) answer →
+      DiagonalFinished c w s0 s saved before m answer (set m (rowStart w s + s0 + (s - s0)) (rootOf q))
   unfolding columnExact
-  diagonal-finished q pivot joined =
+  diagonal-finished x q pivot judges joined =
       let place : rowStart w s + s0 + (s - s0) ≡ rowStart w s + s = omega arith in
       let p : Float = lessPanel w s0 m s s in
       let d : Float = rootOf q in
-      let is : q ≡ judged p = (rw place at pivot) in
+      let value : x ≡ p = (rw place at pivot) in
+      let is : q ≡ judged p = judges ∙ ap judged value in
       rw place
       (record {
         kept = length-set m (rowStart w s + s) d;
@@ -169,17 +171,19 @@ module _ (c w s0 s : ℕ) (before answer : Judgement) (m : List Float) (left : s
             (λ x none. getD-set-other m (rowStart w s + s) x d nan (none s (omega arith) (omega arith)))
             (λ r l h. let same : r ≡ s = omega arith in rw same here) (λ r. rows-in s (s + 1) (s + 1) limit r)
             (λ r. rows-above s (s + 1) (s + 1) limit r) (λ r. rows-under s (s + 1) (s + 1) limit r);
-        judgement = λ n a e limit high right here stage first.
+        judgement = λ n a e limit high right here stage entered first.
             let next : c + s + 1 ≡ c + (s + 1) = omega arith in
+            let own : getD saved (rowStart w s + s0 + (s - s0)) nan ≡ entry a (c + s) (c + s) = rw place (entered .diagonal s narrow) in
             joined (judgePivot n a) (exactColumn n a) (c + s) first
-            (ap (λ x. judgement (columnRules (c + s) x true) (exactRoot x)) (is ∙ ap judged (panel-pivot stage s left right narrow high here)))
+            (ap (λ z. judgement (columnRules (c + s) (getD saved (rowStart w s + s0 + (s - s0)) nan) x true) (exactRoot z)) judges
+            ∙ ap₂ (λ v z. judgement (columnRules (c + s) v z true) (exactRoot (judged z))) own (value ∙ panel-pivot stage s left right narrow high here))
             ∙ ap (pivotsTo n a) next;
       })
 
 -- ---- the rows with the diagonals
 
-pub triangle-none : (c w s0 e : ℕ) (v : Judgement) (m : List Float) → TriangleFinished c w s0 e s0 v m v m
-triangle-none c w s0 e v m =
+pub triangle-none : (c w s0 e : ℕ) (saved : List Float) (v : Judgement) (m : List Float) → TriangleFinished c w s0 e s0 saved v m v m
+triangle-none c w s0 e saved v m =
     record {
       kept = refl;
       beyond = λ p far. refl;
@@ -196,12 +200,13 @@ triangle-none c w s0 e v m =
             | no p ↦ rw (rows-under 0 s0 e (allRows s0) r (omega arith)) at over
           ])
           stage;
-      judgement = λ n a fit stage first. first;
+      judgement = λ n a fit stage entered first. first;
     }
 
 module _
-    {c w s0 e s : ℕ} {v v₁ v₂ : Judgement} {m m₁ m₂ m₃ : List Float} (left : s0 ≤ s) (right : s < e) (before : TriangleFinished c w s0 e s v m v₁ m₁)
-    (row : RowsFinished w s0 s s (s + 1) m₁ m₂) (diagonal : DiagonalFinished c w s0 s v₁ m₂ v₂ m₃) where
+    {c w s0 e s : ℕ} {v v₁ v₂ : Judgement} {saved m m₁ m₂ m₃ : List Float} (left : s0 ≤ s) (right : s < e)
+    (before : TriangleFinished c w s0 e s saved v m v₁ m₁) (row : RowsFinished w s0 s s (s + 1) m₁ m₂)
+    (diagonal : DiagonalFinished c w s0 s saved v₁ m₂ v₂ m₃) where
   module _ (n : ℕ) (a : Triangle) (fit : c + (s + 1) ≤ n) (stage : Stage n a c w s0 e (allRows s0) m) where
     abbrev limit : ℕ → ℕ
     limit = rowsTo s (s + 1) s (topRows s0 e s)
@@ -245,17 +250,17 @@ module _
         ])
         (diagonal .stage n a e limit (omega arith) right (rows-in s (s + 1) s (topRows s0 e s) s (omega arith) (omega arith)) row-finished)
 
-  pub triangle-next : TriangleFinished c w s0 e (s + 1) v m v₂ m₃
+  pub triangle-next : TriangleFinished c w s0 e (s + 1) saved v m v₂ m₃
   triangle-next =
       record {
         kept = diagonal .kept ∙ row .kept ∙ before .kept;
         beyond = λ p far.
             diagonal .beyond p far ∙ row .beyond p far ∙ before .beyond p (omega (arith, row-mono w s (s + 1) (omega arith)));
         stage = diagonal-stage;
-        judgement = λ n a fit stage first.
+        judgement = λ n a fit stage entered first.
             diagonal .judgement n a e (limit n a fit stage) (omega arith) right
-            (rows-in s (s + 1) s (topRows s0 e s) s (omega arith) (omega arith)) (row-finished n a fit stage)
-            (before .judgement n a (omega arith) stage first);
+            (rows-in s (s + 1) s (topRows s0 e s) s (omega arith) (omega arith)) (row-finished n a fit stage) entered
+            (before .judgement n a (omega arith) stage entered first);
       }
 
 -- ---- the rows below
@@ -296,11 +301,23 @@ below-next {w} {s0} {e} {from} {r} {m} {m₁} {m₂} g low before rows =
 
 -- ---- panels
 
+-- what stands before a part that is lent stays
+pub lent-same : {start count size : ℕ} {m m′ : List Float} {value : ℕ → Float} → start ≡ size → Filled nan start count value m m′ → SameTo size m m′
+lent-same e lent = record { at = λ p low. lent .before p (omega arith) }
+
+pub same-join : {size : ℕ} {m m₁ m₂ : List Float} → SameTo size m m₁ → SameTo size m₁ m₂ → SameTo size m m₂
+same-join before then = record { at = λ p low. then .at p low ∙ before .at p low }
+
+-- entry values on the diagonal stay where the saved ones do
+pub entered-same : {a : Triangle} {c w h : ℕ} {saved saved₁ : List Float} → w ≤ h → SameTo (rowStart w h) saved saved₁ → Entered a c w saved → Entered a c w saved₁
+entered-same {w = w} {h} tall same entered =
+    record { diagonal = λ s narrow. same .at (rowStart w s + s) (row-lt w s h s (omega arith) (omega arith)) ∙ entered .diagonal s narrow }
+
 pub panel-finished :
-    {c w h s0 g : ℕ} {before answer : Judgement} {m m₁ m₂ m₃ : List Float} → s0 + g ≤ w → w ≤ h →
-    PanelUpdated 0 w h s0 g (λ q. rowAt m (0 + rowStart w q)) s0 m m₁ → TriangleFinished c w s0 (s0 + g) (s0 + g) before m₁ answer m₂ →
-    BelowFinished w s0 (s0 + g) (s0 + g) h m₂ m₃ → ColumnsFinished c w h s0 (s0 + g) before m answer m₃
-panel-finished {c} {w} {h} {s0} {g} {m = m} {m₁} {m₂} {m₃} wide tall update triangle below =
+    {c w h s0 g : ℕ} {before answer : Judgement} {saved saved₁ m m₁ m₂ m₃ : List Float} → s0 + g ≤ w → w ≤ h → SameTo (rowStart w h) saved saved₁ →
+    PanelUpdated 0 w h s0 g (λ q. rowAt m (0 + rowStart w q)) s0 m m₁ → TriangleFinished c w s0 (s0 + g) (s0 + g) saved₁ before m₁ answer m₂ →
+    BelowFinished w s0 (s0 + g) (s0 + g) h m₂ m₃ → ColumnsFinished c w h s0 (s0 + g) saved before m answer m₃
+panel-finished {c} {w} {h} {s0} {g} {m = m} {m₁} {m₂} {m₃} wide tall same update triangle below =
     record {
       kept = below .kept ∙ triangle .kept ∙ update .kept;
       beyond = λ p far.
@@ -311,21 +328,22 @@ panel-finished {c} {w} {h} {s0} {g} {m = m} {m₁} {m₂} {m₃} wide tall updat
           stage-all n a c w h s0 (s0 + g) m₃ order
           (below .stage n a c (omega arith)
           (triangle .stage n a (omega arith) (stage-updated n a c w h s0 g m m₁ order wide tall stage update)));
-      judgement = λ n a order stage first.
-          triangle .judgement n a (omega arith) (stage-updated n a c w h s0 g m m₁ order wide tall stage update) first;
+      judgement = λ n a order stage entered first.
+          triangle .judgement n a (omega arith) (stage-updated n a c w h s0 g m m₁ order wide tall stage update) (entered-same tall same entered) first;
     }
 
-pub columns-none : (c w h s : ℕ) (v : Judgement) (m : List Float) → ColumnsFinished c w h s s v m v m
-columns-none c w h s v m =
-    record { kept = refl; beyond = λ p far. refl; stage = λ n a order stage. stage; judgement = λ n a order stage first. first }
+pub columns-none : (c w h s : ℕ) (saved : List Float) (v : Judgement) (m : List Float) → ColumnsFinished c w h s s saved v m v m
+columns-none c w h s saved v m =
+    record { kept = refl; beyond = λ p far. refl; stage = λ n a order stage. stage; judgement = λ n a order stage entered first. first }
 
 pub columns-join :
-    {c w h s s′ s″ : ℕ} {v v₁ v₂ : Judgement} {m m₁ m₂ : List Float} → ColumnsFinished c w h s s′ v m v₁ m₁ → ColumnsFinished c w h s′ s″ v₁ m₁ v₂ m₂ →
-    ColumnsFinished c w h s s″ v m v₂ m₂
-columns-join before then =
+    {c w h s s′ s″ : ℕ} {v v₁ v₂ : Judgement} {saved saved₁ m m₁ m₂ : List Float} → w ≤ h → SameTo (rowStart w h) saved saved₁ →
+    ColumnsFinished c w h s s′ saved v m v₁ m₁ → ColumnsFinished c w h s′ s″ saved₁ v₁ m₁ v₂ m₂ → ColumnsFinished c w h s s″ saved v m v₂ m₂
+columns-join tall same before then =
     record {
       kept = then .kept ∙ before .kept;
       beyond = λ p far. then .beyond p far ∙ before .beyond p far;
       stage = λ n a order stage. then .stage n a order (before .stage n a order stage);
-      judgement = λ n a order stage first. then .judgement n a order (before .stage n a order stage) (before .judgement n a order stage first);
+      judgement = λ n a order stage entered first.
+          then .judgement n a order (before .stage n a order stage) (entered-same tall same entered) (before .judgement n a order stage entered first);
     }

@@ -21,6 +21,10 @@ use Rattle.kernels.specs.Kernels.{rowAt, laneAt}
 abbrev pub rowStart : ℕ → ℕ → ℕ
 rowStart w r = placeInBlock w r 0
 
+-- the first `count` places are as they were
+pub record SameTo (count : ℕ) (m m′ : List Float) : Type 0 where
+  pub at : (p : ℕ) → p < count → getD m′ p nan ≡ getD m p nan
+
 -- the first g of 16 lanes of a panel hold rows of the block column at `start`, from row `first` on
 abbrev pub LanesHold : List Float → List Float → ℕ → ℕ → ℕ → ℕ → ℕ → Type 0
 LanesHold panel m start w first count g =

@@ -6,7 +6,6 @@ use mathlib.Core.List.{List}
 use lib.Dec.{leb, ltb}
 use lib.ListN.{length, getD}
 use lib.Ieee.{Float, nan}
-use Rattle.binary64.specs.Judged.{judged}
 use Rattle.calls.specs.declared.Verdict.{Verdict}
 use Rattle.calls.specs.declared.Judgement.{Judgement}
 use Rattle.calls.specs.Triangles.{Triangle, entry, height}
@@ -26,7 +25,7 @@ lessProducts n a k i j = minusProducts (λ q. factorEntry n a i q) (λ q. factor
 
 -- what a column is judged to where the entries below its pivot are finite
 abbrev pub judgePivot : ℕ → Triangle → ℕ → Verdict
-judgePivot n a = λ j. columnRules j (judged (pivot a (cholesky (height n) a j) j)) true
+judgePivot n a = λ j. columnRules j (entry a j j) (pivot a (cholesky (height n) a j) j) true
 
 -- what the first k columns are judged to, and what by their pivots alone
 abbrev pub columnsTo : ℕ → Triangle → ℕ → Judgement
@@ -34,6 +33,10 @@ columnsTo n a k = judgedTo (judgeColumn n a) (exactColumn n a) k
 
 abbrev pub pivotsTo : ℕ → Triangle → ℕ → Judgement
 pivotsTo n a k = judgedTo (judgePivot n a) (exactColumn n a) k
+
+-- saved entry values, laid out as the block column is: those on the diagonal
+pub record Entered (a : Triangle) (c w : ℕ) (saved : List Float) : Type 0 where
+  pub diagonal : (s : ℕ) → s < w → getD saved (rowStart w s + s) nan ≡ entry a (c + s) (c + s)
 
 -- Row r is finished in its columns before `limit r`. Its other columns before e have the products with columns before c + s0 subtracted, and the
 -- rest those before c.
@@ -65,24 +68,25 @@ pub record RowsFinished (w s0 end from to : ℕ) (m m′ : List Float) : Type 0 
 
 -- The diagonal entry of column s, which is column c + s of the matrix, is finished, given its row. `before` is what the earlier columns are judged to by
 -- their pivots, and `answer` what those up to this one are.
-pub record DiagonalFinished (c w s0 s : ℕ) (before : Judgement) (m : List Float) (answer : Judgement) (m′ : List Float) : Type 0 where
+pub record DiagonalFinished (c w s0 s : ℕ) (saved : List Float) (before : Judgement) (m : List Float) (answer : Judgement) (m′ : List Float) : Type 0 where
   pub kept : length m′ ≡ length m
   pub beyond : (p : ℕ) → rowStart w (s + 1) ≤ p → getD m′ p nan ≡ getD m p nan
   pub stage :
       (n : ℕ) (a : Triangle) (e : ℕ) (limit : ℕ → ℕ) → c + s < n → s < e → limit s ≡ s → Stage n a c w s0 e limit m →
       Stage n a c w s0 e (rowsTo s (s + 1) (s + 1) limit) m′
   pub judgement :
-      (n : ℕ) (a : Triangle) (e : ℕ) (limit : ℕ → ℕ) → c + s < n → s < e → limit s ≡ s → Stage n a c w s0 e limit m →
+      (n : ℕ) (a : Triangle) (e : ℕ) (limit : ℕ → ℕ) → c + s < n → s < e → limit s ≡ s → Stage n a c w s0 e limit m → Entered a c w saved →
       before ≡ pivotsTo n a (c + s) → answer ≡ pivotsTo n a (c + (s + 1))
 
 -- Rows before `to` of the panel of columns s0 .. e − 1 are finished, from row s0 on; the columns of their diagonals are judged by their pivots.
-pub record TriangleFinished (c w s0 e to : ℕ) (before : Judgement) (m : List Float) (answer : Judgement) (m′ : List Float) : Type 0 where
+pub record TriangleFinished (c w s0 e to : ℕ) (saved : List Float) (before : Judgement) (m : List Float) (answer : Judgement) (m′ : List Float) : Type 0 where
   pub kept : length m′ ≡ length m
   pub beyond : (p : ℕ) → rowStart w to ≤ p → getD m′ p nan ≡ getD m p nan
   pub stage :
       (n : ℕ) (a : Triangle) → c + to ≤ n → Stage n a c w s0 e (allRows s0) m → Stage n a c w s0 e (topRows s0 e to) m′
   pub judgement :
-      (n : ℕ) (a : Triangle) → c + to ≤ n → Stage n a c w s0 e (allRows s0) m → before ≡ pivotsTo n a (c + s0) → answer ≡ pivotsTo n a (c + to)
+      (n : ℕ) (a : Triangle) → c + to ≤ n → Stage n a c w s0 e (allRows s0) m → Entered a c w saved → before ≡ pivotsTo n a (c + s0) →
+      answer ≡ pivotsTo n a (c + to)
 
 -- Rows from `from` to `to` − 1 of a panel are finished after those above them.
 pub record BelowFinished (w s0 e from to : ℕ) (m m′ : List Float) : Type 0 where
@@ -92,25 +96,26 @@ pub record BelowFinished (w s0 e from to : ℕ) (m m′ : List Float) : Type 0 w
       (n : ℕ) (a : Triangle) (c : ℕ) → c + to ≤ n → Stage n a c w s0 e (topRows s0 e from) m → Stage n a c w s0 e (topRows s0 e to) m′
 
 -- Columns from `from` to `to` − 1 of a block column of h rows are finished, and judged by their pivots.
-pub record ColumnsFinished (c w h from to : ℕ) (before : Judgement) (m : List Float) (answer : Judgement) (m′ : List Float) : Type 0 where
+pub record ColumnsFinished (c w h from to : ℕ) (saved : List Float) (before : Judgement) (m : List Float) (answer : Judgement) (m′ : List Float) : Type 0 where
   pub kept : length m′ ≡ length m
   pub beyond : (p : ℕ) → rowStart w h ≤ p → getD m′ p nan ≡ getD m p nan
   pub stage :
       (n : ℕ) (a : Triangle) → c + h ≡ n → Stage n a c w from from (allRows from) m → Stage n a c w to to (allRows to) m′
   pub judgement :
-      (n : ℕ) (a : Triangle) → c + h ≡ n → Stage n a c w from from (allRows from) m → before ≡ pivotsTo n a (c + from) → answer ≡ pivotsTo n a (c + to)
+      (n : ℕ) (a : Triangle) → c + h ≡ n → Stage n a c w from from (allRows from) m → Entered a c w saved → before ≡ pivotsTo n a (c + from) →
+      answer ≡ pivotsTo n a (c + to)
 
 -- A finished block column is judged, given what the columns up to its end are judged to by their pivots.
-abbrev pub BlockColumnJudged : ℕ → ℕ → ℕ → Judgement → List Float → Judgement → Type 0
-BlockColumnJudged c w h first m answer =
-    (n : ℕ) (a : Triangle) → c + h ≡ n → Stage n a c w w w (allRows w) m → lowestRefusal (judgeColumn n a) c ≡ success →
+abbrev pub BlockColumnJudged : ℕ → ℕ → ℕ → List Float → Judgement → List Float → Judgement → Type 0
+BlockColumnJudged c w h saved first m answer =
+    (n : ℕ) (a : Triangle) → c + h ≡ n → Stage n a c w w w (allRows w) m → Entered a c w saved → lowestRefusal (judgeColumn n a) c ≡ success →
     first ≡ pivotsTo n a (c + w) → answer ≡ columnsTo n a (c + w)
 
 -- A block column holds what `cholesky` gives, and is judged, `before` being what the accepted columns before it are judged to.
-pub record BlockColumnFactored (c w h : ℕ) (before : Judgement) (m : List Float) (answer : Judgement) (m′ : List Float) : Type 0 where
+pub record BlockColumnFactored (c w h : ℕ) (saved : List Float) (before : Judgement) (m : List Float) (answer : Judgement) (m′ : List Float) : Type 0 where
   pub kept : length m′ ≡ length m
   pub beyond : (p : ℕ) → rowStart w h ≤ p → getD m′ p nan ≡ getD m p nan
   pub stage : (n : ℕ) (a : Triangle) → c + h ≡ n → Stage n a c w 0 0 (allRows 0) m → Stage n a c w w w (allRows w) m′
   pub judgement :
-      (n : ℕ) (a : Triangle) → c + h ≡ n → Stage n a c w 0 0 (allRows 0) m → lowestRefusal (judgeColumn n a) c ≡ success →
+      (n : ℕ) (a : Triangle) → c + h ≡ n → Stage n a c w 0 0 (allRows 0) m → Entered a c w saved → lowestRefusal (judgeColumn n a) c ≡ success →
       before ≡ columnsTo n a c → answer ≡ columnsTo n a (c + w)

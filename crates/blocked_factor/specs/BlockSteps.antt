@@ -14,7 +14,7 @@ use Rattle.calls.specs.Refusals.{success, accepted, lowestRefusal}
 use Rattle.calls.specs.declared.Layout.the-variants.{Blocked}
 use Rattle.calls.specs.Calls.{judgeColumn, finished}
 use Rattle.blocked_factor.specs.BlockColumns.{rowStart}
-use Rattle.blocked_factor.specs.BlockStages.{factorEntry, columnsTo}
+use Rattle.blocked_factor.specs.BlockStages.{factorEntry, columnsTo, Entered}
 
 -- column c begins a block column of a matrix of order n, with a block length above 1, in a memory of its length
 pub record BlockAt (n b c len : ℕ) : Type 0 where
@@ -40,13 +40,13 @@ BlockJudged n b c before m answer =
     (a : Triangle) → FactoredTo n b a c m → lowestRefusal (judgeColumn n a) c ≡ success → before ≡ columnsTo n a c →
     answer ≡ columnsTo n a (c + width n b c)
 
--- The block column at c is finished, and judged. Earlier and later places are as they were.
-pub record BlockFactored (n b c : ℕ) (before : Judgement) (m : List Float) (answer : Judgement) (m′ : List Float) : Type 0 where
+-- The block column at c is finished, and judged, given its saved entry values. Earlier and later places are as they were.
+pub record BlockFactored (n b c : ℕ) (saved : List Float) (before : Judgement) (m : List Float) (answer : Judgement) (m′ : List Float) : Type 0 where
   pub kept : length m′ ≡ length m
   pub earlier : (p : ℕ) → p < blockStart n c → getD m′ p nan ≡ getD m p nan
   pub later : (p : ℕ) → blockStart n c + rowStart (width n b c) (n - c) ≤ p → getD m′ p nan ≡ getD m p nan
   pub finished : (a : Triangle) → FactoredTo n b a c m → FactoredTo n b a (c + width n b c) m′
-  pub judged : BlockJudged n b c before m answer
+  pub judged : ((a : Triangle) → FactoredTo n b a c m → Entered a c (width n b c) saved) → BlockJudged n b c before m answer
 
 -- It is judged, and finished where no column is refused; else all memory is as it was.
 pub record BlockDone (n b c : ℕ) (before : Judgement) (m : List Float) (answer : Judgement) (m′ : List Float) : Type 0 where

@@ -1,12 +1,12 @@
 // The blocked factor: block column by block column, each less the products of those before it, then finished panel by panel.
 ghost use mathlib.Core.Path.{_≡_};
-ghost use Prim.Native.Nat.{ℕ, _+_, _-_, _*_, _≤_, _<_};
+ghost use Prim.Native.Nat.{ℕ, _+_, _-_, _≤_, _<_};
 ghost use lib.ListN.{length, getD, replicate};
 ghost use Rattle.binary64.specs.Kinds.{zero64};
 ghost use Rattle.shape.specs.Bounds.{maxOrder};
-ghost use Rattle.shape.specs.Places.{blockWork};
+ghost use Rattle.shape.specs.Places.{width, blockWork};
 ghost use Rattle.calls.specs.Calls.{DoneAs, factorize};
-ghost use Rattle.blocked_factor.specs.BlockColumns.{rowStart, ColumnDivided, rootOf, columnFinite, LowestOverflow};
+ghost use Rattle.blocked_factor.specs.BlockColumns.{rowStart, SameTo, ColumnDivided, rootOf, columnFinite, LowestOverflow};
 ghost use Rattle.blocked_factor.specs.BlockStages.{RowsFinished, DiagonalFinished, TriangleFinished, BelowFinished, ColumnsFinished, BlockColumnJudged, BlockColumnFactored};
 ghost use Rattle.blocked_factor.specs.BlockSteps.{BlockAt, BlockFactored, BlockDone, Sized, BlocksDone};
 
@@ -94,42 +94,49 @@ fn diagonal_of(pivot: Pivot) -> f64
     }
 }
 
-// The diagonal of column s, which is column c + s of the matrix, after its row. The columns up to it are judged by their pivots.
+// The diagonal of column s, which is column c + s of the matrix, after its row. The columns up to it are judged by their pivots; `saved` has the entry values.
 fn finish_diagonal(
     part: &mut [f64],
+    saved: &[f64],
     c: usize,
     width: usize,
     s0: usize,
     s: usize,
     before: Judgement,
 ) -> Judgement
-    requires { ⌜ (s0 ≤ s) × (s < width) × (c + s < maxOrder) × (rowStart width (s + 1) ≤ length (now part)) ⌝ }
-    ensures { λ r. ⌜ DiagonalFinished c width s0 s before (now (part .entry)) r (now (part .exit)) ⌝ }
+    requires { ⌜ (s0 ≤ s) × (s < width) × (c + s < maxOrder) × (rowStart width (s + 1) ≤ length (now part)) × (rowStart width (s + 1) ≤ length (now saved)) ⌝ }
+    ensures { λ r. ⌜ DiagonalFinished c width s0 s (now (saved .entry)) before (now (part .entry)) r (now (part .exit)) ⌝ }
 {
     let y = Shape::place_in_block(width, s, 0) + s0;
     let count = s - s0;
-    let pivot = binary64::judge(minus_products(part, y, y, count, part[y + count]));
+    let value = minus_products(part, y, y, count, part[y + count]);
+    let pivot = binary64::judge(value);
     part[y + count] = diagonal_of(pivot);
-    calls::joined(before, checks::judge_column(c + s, pivot, true))
+    let entered = saved[y + count];
+    calls::joined(
+        before,
+        checks::judge_column(c + s, entered, value, pivot, true),
+    )
 }
 
 // The rows with the diagonals of columns s0 .. e − 1, one after another.
 fn finish_triangle(
     part: &mut [f64],
+    saved: &[f64],
     c: usize,
     width: usize,
     s0: usize,
     e: usize,
     before: Judgement,
 ) -> Judgement
-    requires { ⌜ (s0 ≤ e) × (e ≤ width) × (c + e ≤ maxOrder) × (rowStart width e ≤ length (now part)) ⌝ }
-    ensures { λ r. ⌜ TriangleFinished c width s0 e e before (now (part .entry)) r (now (part .exit)) ⌝ }
+    requires { ⌜ (s0 ≤ e) × (e ≤ width) × (c + e ≤ maxOrder) × (rowStart width e ≤ length (now part)) × (rowStart width e ≤ length (now saved)) ⌝ }
+    ensures { λ r. ⌜ TriangleFinished c width s0 e e (now (saved .entry)) before (now (part .entry)) r (now (part .exit)) ⌝ }
 {
     let mut judged = before;
     let mut s = s0;
     while s < e {
         finish_row(part, width, s, s0, s);
-        let next = finish_diagonal(part, c, width, s0, s, judged);
+        let next = finish_diagonal(part, saved, c, width, s0, s, judged);
         judged = next;
         s += 1;
     }
@@ -153,10 +160,11 @@ fn finish_below(part: &mut [f64], width: usize, rows: usize, s0: usize, e: usize
     }
 }
 
-// The g columns from s0 on: less the products of the block column's own earlier columns, then finished.
+// The g columns from s0 on: less the products of the block column's own earlier columns, then finished. The work memory has the block column's entry values,
+// which stay, and behind them what is spare.
 fn factor_panel(
     part: &mut [f64],
-    spare: &mut [f64],
+    work: &mut [f64],
     c: usize,
     width: usize,
     rows: usize,
@@ -166,15 +174,18 @@ fn factor_panel(
 ) -> Judgement
     requires { ⌜ (s0 + g ≤ width) × (width ≤ rows) × (c + rows ≤ maxOrder) × (rowStart width rows ≤ length (now part)) ⌝ }
     requires { ⌜ g ≤ 16 ⌝ }
-    ensures { λ r. ⌜ ColumnsFinished c width rows s0 (s0 + g) before (now (part .entry)) r (now (part .exit)) ⌝ }
+    requires { ⌜ rowStart width rows ≤ length (now work) ⌝ }
+    ensures { λ r. ⌜ ColumnsFinished c width rows s0 (s0 + g) (now (work .entry)) before (now (part .entry)) r (now (part .exit)) ⌝ }
+    ensures { λ _. ⌜ SameTo (rowStart width rows) (now (work .entry)) (now (work .exit)) ⌝ }
 {
     let column = BlockColumn {
         start: 0,
         width,
         rows,
     };
-    update_panel(part, spare, column, s0, g);
-    let judged = finish_triangle(part, c, width, s0, s0 + g, before);
+    let size = Shape::place_in_block(width, rows, 0);
+    update_panel(part, &mut work[size..], column, s0, g);
+    let judged = finish_triangle(part, work, c, width, s0, s0 + g, before);
     finish_below(part, width, rows, s0, s0 + g);
     judged
 }
@@ -182,20 +193,22 @@ fn factor_panel(
 // All columns, panel by panel, judged by their pivots.
 fn factor_panels(
     part: &mut [f64],
-    spare: &mut [f64],
+    work: &mut [f64],
     c: usize,
     width: usize,
     rows: usize,
     before: Judgement,
 ) -> Judgement
     requires { ⌜ (width ≤ rows) × (c + rows ≤ maxOrder) × (rowStart width rows ≤ length (now part)) ⌝ }
-    ensures { λ r. ⌜ ColumnsFinished c width rows 0 width before (now (part .entry)) r (now (part .exit)) ⌝ }
+    requires { ⌜ rowStart width rows ≤ length (now work) ⌝ }
+    ensures { λ r. ⌜ ColumnsFinished c width rows 0 width (now (work .entry)) before (now (part .entry)) r (now (part .exit)) ⌝ }
+    ensures { λ _. ⌜ SameTo (rowStart width rows) (now (work .entry)) (now (work .exit)) ⌝ }
 {
     let mut judged = before;
     let mut s0 = 0;
     while s0 < width {
         let g = least(16, width - s0);
-        let next = factor_panel(part, spare, c, width, rows, s0, g, judged);
+        let next = factor_panel(part, work, c, width, rows, s0, g, judged);
         judged = next;
         s0 += g;
     }
@@ -236,10 +249,18 @@ fn lowest_overflow(part: &[f64], width: usize, rows: usize) -> usize
     width
 }
 
-// A finished block column judged: a column with an overflow decides where no pivot refuses it or a column before it, and whether its root is exact does not count.
-fn judge_block(part: &[f64], c: usize, width: usize, rows: usize, first: Judgement) -> Judgement
-    requires { ⌜ (width ≤ rows) × (c + rows ≤ maxOrder) × (rowStart width rows ≤ length (now part)) ⌝ }
-    ensures { λ r. ⌜ BlockColumnJudged c width rows first (now (part .entry)) r ⌝ }
+// A finished block column judged, `first` being what its columns are judged to by their pivots. The lowest column with an overflow is judged once more, unless
+// one before it is refused; where its pivot refuses it, that is the value.
+fn judge_block(
+    part: &[f64],
+    saved: &[f64],
+    c: usize,
+    width: usize,
+    rows: usize,
+    first: Judgement,
+) -> Judgement
+    requires { ⌜ (width ≤ rows) × (c + rows ≤ maxOrder) × (rowStart width rows ≤ length (now part)) × (rowStart width rows ≤ length (now saved)) ⌝ }
+    ensures { λ r. ⌜ BlockColumnJudged c width rows (now (saved .entry)) first (now (part .entry)) r ⌝ }
 {
     let s = lowest_overflow(part, width, rows);
     if s == width {
@@ -247,47 +268,57 @@ fn judge_block(part: &[f64], c: usize, width: usize, rows: usize, first: Judgeme
     }
     let verdict = first.verdict;
     if !calls::accepted(verdict) {
-        if verdict.place <= c + s {
+        if verdict.place < c + s {
             return first;
         }
+        if verdict.place == c + s {
+            let p = Shape::place_in_block(width, s, 0) + s;
+            let entered = saved[p];
+            let value = verdict.value;
+            return checks::judge_column(c + s, entered, value, binary64::judge(value), false);
+        }
     }
-    let p = Shape::place_in_block(width, s, 0) + s;
-    checks::judge_column(c + s, Pivot::Root(part[p], false), false)
+    checks::refused_below(c + s)
 }
 
 // The block column that begins with column c, from the memory's start on, less the products of the columns before c already: its values, and then what the
 // columns up to its end are judged to.
 fn factor_block(
     part: &mut [f64],
-    spare: &mut [f64],
+    work: &mut [f64],
     c: usize,
     width: usize,
     rows: usize,
     before: Judgement,
 ) -> Judgement
     requires { ⌜ (width ≤ rows) × (c + rows ≤ maxOrder) × (rowStart width rows ≤ length (now part)) ⌝ }
-    ensures { λ r. ⌜ BlockColumnFactored c width rows before (now (part .entry)) r (now (part .exit)) ⌝ }
+    requires { ⌜ rowStart width rows ≤ length (now work) ⌝ }
+    ensures { λ r. ⌜ BlockColumnFactored c width rows (now (work .entry)) before (now (part .entry)) r (now (part .exit)) ⌝ }
+    ensures { λ _. ⌜ SameTo (rowStart width rows) (now (work .entry)) (now (work .exit)) ⌝ }
 {
-    let first = factor_panels(part, spare, c, width, rows, before);
-    judge_block(part, c, width, rows, first)
+    let first = factor_panels(part, work, c, width, rows, before);
+    judge_block(part, work, c, width, rows, first)
 }
 
 // The block column that begins with column c; it is worked on as a part of the memory from its start on.
 fn factor_part(
     m: &mut [f64],
-    spare: &mut [f64],
+    work: &mut [f64],
     shape: Shape,
     c: usize,
     before: Judgement,
 ) -> Judgement
     requires { ⌜ BlockAt (shape .order) (shape .block) c (length (now m)) ⌝ }
-    requires { ⌜ (0 < c → 2 * shape .block ≤ length (now spare)) ⌝ }
-    ensures { λ r. ⌜ BlockFactored (shape .order) (shape .block) c before (now (m .entry)) r (now (m .exit)) ⌝ }
+    requires { ⌜ length (now work) ≡ blockWork (shape .order) (shape .block) ⌝ }
+    ensures { λ r. ⌜ BlockFactored (shape .order) (shape .block) c (now (work .entry)) before (now (m .entry)) r (now (m .exit)) ⌝ }
+    ensures { λ _. ⌜ SameTo (rowStart (width (shape .order) (shape .block) c) (shape .order - c)) (now (work .entry)) (now (work .exit)) ⌝ }
 {
-    update_by_runs(m, spare, shape, c);
     let start = shape.block_start(c);
     let width = shape.block_width(c);
-    factor_block(&mut m[start..], spare, c, width, shape.order - c, before)
+    let rows = shape.order - c;
+    let size = Shape::place_in_block(width, rows, 0);
+    update_by_runs(m, &mut work[size..], shape, c);
+    factor_block(&mut m[start..], work, c, width, rows, before)
 }
 
 // The entry values are kept in the work memory, whose rest is spare, and put back where a column is refused.
@@ -305,7 +336,7 @@ fn factor_step(
     let start = shape.block_start(c);
     let size = Shape::place_in_block(shape.block_width(c), shape.order - c, 0);
     copy_part(m, start, work, 0, size);
-    let judged = factor_part(m, &mut work[size..], shape, c, before);
+    let judged = factor_part(m, work, shape, c, before);
     let verdict = judged.verdict;
     if !calls::accepted(verdict) {
         copy_part(work, 0, m, start, size);

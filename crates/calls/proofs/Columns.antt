@@ -109,7 +109,7 @@ pub column-accepted :
 unfolding columnVerdict
 column-accepted heightOf a l j t =
     let both : (judged (pivot a l j) ≡ Root (root (pivot a l j)) (exact (pivot a l j))) × T (all finite (below heightOf a j l)) =
-    rules-accepted j (pivot a l j) (all finite (below heightOf a j l)) t
+    rules-accepted j (entry a j j) (pivot a l j) (all finite (below heightOf a j l)) t
     in
     (judged-positive (pivot a l j) (both .0), both .1)
 

@@ -59,7 +59,7 @@ module _ (n : ℕ) (a : Triangle) (given : FiniteMatrix n a) (passed : T (accept
   -- an accepted column's exactness is that of its root
   column-exact : (j : ℕ) → j < n → columnExact a (columns n a j) j ≡ exact (pivotOf j)
   unfolding columnExact columnVerdict
-  column-exact j h = ap exactRoot (rules-accepted j (pivotOf j) (all finite (below (height n) a j (columns n a j))) (each j h) .0)
+  column-exact j h = ap exactRoot (rules-accepted j (entry a j j) (pivotOf j) (all finite (below (height n) a j (columns n a j))) (each j h) .0)
 
   -- which is whether the square of l(j,j) is the pivot
   column-squares :

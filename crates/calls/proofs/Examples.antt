@@ -17,7 +17,7 @@ use Rattle.calls.specs.declared.Layout.the-variants.{Packed, Blocked}
 use Rattle.calls.specs.Sequences.{iterate, grow, tabulate, all, every}
 use Rattle.calls.specs.Triangles.{entry, height, placeOf, load, storeColumn, store}
 use Rattle.calls.specs.Arithmetic.{minusProducts, pivot, quotient, below, factorColumn, cholesky, forward, backwardRows, backward}
-use Rattle.calls.specs.Refusals.{firstRefusal, lowestRefusal, rule1, rule2, rule3, rule4, rule5, rule6, finiteRule, rule9, rule11, columnRules, columnVerdict, columnExact, rule12}
+use Rattle.calls.specs.Refusals.{firstRefusal, lowestRefusal, rule1, rule2, rule3, rule4, rule5, rule6, finiteRule, rule9, rule11, weak, rule16, columnRules, columnVerdict, columnExact, rule12}
 use Rattle.calls.specs.Calls.{resultOf, clear, rearrangerChecks, moved, rearrange, factorChecks, columnsVerdict, columnsExact, factored, factorize, solverChecks, rhsPart, solution, rhsVerdict, solutions, solved, solve}
 use Rattle.calls.specs.Pipelines.{Ended, plainPipeline, blockedPipeline}
 
@@ -87,6 +87,18 @@ twoToMinus54 = 0x3C90_0000_0000_0000
 abbrev twoToMinus27 : ℕ
 twoToMinus27 = 0x3E40_0000_0000_0000
 
+abbrev twoToMinus52 : ℕ
+twoToMinus52 = 0x3CB0_0000_0000_0000
+
+abbrev twoToMinus50 : ℕ
+twoToMinus50 = 0x3CD0_0000_0000_0000
+
+abbrev twoToMinus40 : ℕ
+twoToMinus40 = 0x3D70_0000_0000_0000
+
+abbrev twoToMinus20 : ℕ
+twoToMinus20 = 0x3EB0_0000_0000_0000
+
 abbrev twoTo100 : ℕ
 twoTo100 = 0x4630_0000_0000_0000
 
@@ -95,6 +107,16 @@ twoTo600 = 0x6570_0000_0000_0000
 
 abbrev twoTo900 : ℕ
 twoTo900 = 0x7830_0000_0000_0000
+
+abbrev twoTo1000 : ℕ
+twoTo1000 = 0x7E70_0000_0000_0000
+
+-- the upper neighbours of 1 and 5
+abbrev onePlus : ℕ
+onePlus = 0x3FF0_0000_0000_0001
+
+abbrev fivePlus : ℕ
+fivePlus = 0x4014_0000_0000_0001
 
 -- ---- comparing by bits
 
@@ -205,10 +227,14 @@ at n b i j place = eqb (blockedPlace n b i j) place
 hasRoot : ℕ → ℕ → Bool
 hasRoot v r = eqb (toBits binary64 (root (ofBits binary64 v))) r
 
+-- a(j,j) at entry and a pivot
+isWeak : ℕ → ℕ → Bool
+isWeak entered p = weak (ofBits binary64 entered) (ofBits binary64 p)
+
 -- ---- the table
 
 pub rows : List Bool
-unfolding moves factors solves moveRefused factorRefused solveRefused ends job at hasRoot gives decides memory used
+unfolding moves factors solves moveRefused factorRefused solveRefused ends job at hasRoot isWeak gives decides memory used
 rows =
     -- n 0, empty memory: success.
     gives (rearrange Packed Blocked 0 1 [] [] .result) success
@@ -278,6 +304,42 @@ rows =
     ∷ factors Blocked 2 2 4 (two ∷ 0 ∷ four ∷ []) someInexact (0x3FF6_A09E_667F_3BCD ∷ 0 ∷ two ∷ [])
     ∷ factors Packed 2 1 2 (four ∷ 0 ∷ two ∷ []) someInexact (two ∷ 0 ∷ 0x3FF6_A09E_667F_3BCD ∷ [])
     ∷ factors Blocked 2 2 4 (four ∷ 0 ∷ two ∷ []) someInexact (two ∷ 0 ∷ 0x3FF6_A09E_667F_3BCD ∷ [])
+    -- ---- document 02, (c): the bound is weak, its upper neighbour is not; what is not greater than zero is none.
+    ∷ isWeak one twoToMinus40
+    ∷ isWeak one 0x3D6F_FFFF_FFFF_FFFF
+    ∷ not (isWeak one 0x3D70_0000_0000_0001)
+    ∷ not (isWeak one 0)
+    ∷ not (isWeak one minusOne)
+    -- The product is rounded: in units of the smallest subnormal 1 is 1, 1.5 is 2, and 0.5 is 0, below which nothing is weak.
+    ∷ isWeak 0x0000_0100_0000_0000 1
+    ∷ isWeak 0x0000_0180_0000_0000 2
+    ∷ not (isWeak 0x0000_0180_0000_0000 3)
+    ∷ not (isWeak 0x0000_0080_0000_0000 1)
+    ∷ not (isWeak 1 1)
+    -- The pivots 1 − (1 − 2^−41)², rounded to 2^−40, and 2^−39 − 2^−40 (1 − 2^−53)², its upper neighbour.
+    ∷ factors Packed 2 1 2 (one ∷ 0x3FEF_FFFF_FFFF_F000 ∷ one ∷ []) (16, 1, twoToMinus40, false) (one ∷ 0x3FEF_FFFF_FFFF_F000 ∷ one ∷ [])
+    ∷ factors Packed 3 1 3 (one ∷ 0 ∷ 0x3FEF_FFFF_FFFF_E000 ∷ one ∷ 0x3EAF_FFFF_FFFF_FFFF ∷ one ∷ []) someInexact
+    (one ∷ 0 ∷ 0x3FEF_FFFF_FFFF_E000 ∷ one ∷ 0x3EAF_FFFF_FFFF_FFFF ∷ twoToMinus20 ∷ [])
+    -- Packed 1, 1, 1 + 2^−52: 16, place 1, value 2^−52.
+    ∷ factors Packed 2 1 2 (one ∷ one ∷ onePlus ∷ []) (16, 1, twoToMinus52, false) (one ∷ one ∷ onePlus ∷ [])
+    ∷ factors Blocked 2 1 2 (one ∷ one ∷ onePlus ∷ []) (16, 1, twoToMinus52, false) (one ∷ one ∷ onePlus ∷ [])
+    ∷ factors Blocked 2 2 4 (one ∷ one ∷ onePlus ∷ []) (16, 1, twoToMinus52, false) (one ∷ one ∷ onePlus ∷ [])
+    -- What stays after it is what stays after 10, in the same and in a later block column.
+    ∷ factors Packed 3 2 3 (four ∷ two ∷ minusTwo ∷ ten ∷ five ∷ fivePlus ∷ []) (16, 2, twoToMinus50, false) (two ∷ one ∷ minusOne ∷ three ∷ two ∷ fivePlus ∷ [])
+    ∷ factors Blocked 3 2 6 (four ∷ two ∷ ten ∷ minusTwo ∷ five ∷ fivePlus ∷ []) (16, 2, twoToMinus50, false) (two ∷ one ∷ three ∷ minusOne ∷ two ∷ fivePlus ∷ [])
+    ∷ factors Blocked 3 3 9 (four ∷ two ∷ ten ∷ minusTwo ∷ five ∷ fivePlus ∷ []) (16, 2, twoToMinus50, false) (four ∷ two ∷ ten ∷ minusTwo ∷ five ∷ fivePlus ∷ [])
+    -- A weak column that overflows is 11.
+    ∷ factors Packed 3 2 3 (one ∷ one ∷ 0 ∷ onePlus ∷ twoTo1000 ∷ one ∷ []) (11, 1, 0, false) (one ∷ one ∷ 0 ∷ onePlus ∷ twoTo1000 ∷ one ∷ [])
+    ∷ factors Blocked 3 2 6 (one ∷ one ∷ onePlus ∷ 0 ∷ twoTo1000 ∷ one ∷ []) (11, 1, 0, false) (one ∷ one ∷ onePlus ∷ 0 ∷ twoTo1000 ∷ one ∷ [])
+    -- One before a column refused by 10 decides, and before one that overflows; one after either does not.
+    ∷ factors Packed 3 2 3 (one ∷ one ∷ 0 ∷ onePlus ∷ 0 ∷ minusOne ∷ []) (16, 1, twoToMinus52, false) (one ∷ one ∷ 0 ∷ onePlus ∷ 0 ∷ minusOne ∷ [])
+    ∷ factors Blocked 3 3 9 (one ∷ one ∷ onePlus ∷ 0 ∷ 0 ∷ minusOne ∷ []) (16, 1, twoToMinus52, false) (one ∷ one ∷ onePlus ∷ 0 ∷ 0 ∷ minusOne ∷ [])
+    ∷ factors Blocked 4 4 16 (one ∷ one ∷ onePlus ∷ 0 ∷ 0 ∷ twoToMinus1000 ∷ 0 ∷ 0 ∷ twoTo600 ∷ one ∷ []) (16, 1, twoToMinus52, false)
+    (one ∷ one ∷ onePlus ∷ 0 ∷ 0 ∷ twoToMinus1000 ∷ 0 ∷ 0 ∷ twoTo600 ∷ one ∷ [])
+    ∷ factors Packed 3 2 3 (minusOne ∷ 0 ∷ 0 ∷ one ∷ one ∷ onePlus ∷ []) (10, 0, minusOne, false) (minusOne ∷ 0 ∷ 0 ∷ one ∷ one ∷ onePlus ∷ [])
+    ∷ factors Blocked 3 3 9 (minusOne ∷ 0 ∷ one ∷ 0 ∷ one ∷ onePlus ∷ []) (10, 0, minusOne, false) (minusOne ∷ 0 ∷ one ∷ 0 ∷ one ∷ onePlus ∷ [])
+    ∷ factors Blocked 4 4 16 (twoToMinus1000 ∷ 0 ∷ one ∷ 0 ∷ one ∷ onePlus ∷ twoTo600 ∷ 0 ∷ 0 ∷ one ∷ []) (11, 0, 0, false)
+    (twoToMinus1000 ∷ 0 ∷ one ∷ 0 ∷ one ∷ onePlus ∷ twoTo600 ∷ 0 ∷ 0 ∷ one ∷ [])
     -- ---- beyond document 01's list
     -- What stays after 10: the plain factor keeps its finished columns, the blocked one its finished block columns.
     ∷ factors Packed 2 1 2 (four ∷ two ∷ one ∷ []) (10, 1, 0, false) (two ∷ one ∷ one ∷ [])
@@ -399,5 +461,5 @@ rows =
     ∷ []
 
 pub examples-hold : T (all (λ r. r) rows)
-unfolding rows rearrange rearrangerChecks moved factorize factorChecks factored columnsVerdict columnsExact solve solverChecks solved rhsVerdict rhsPart solution solutions clear plainPipeline blockedPipeline firstRefusal lowestRefusal rule1 rule2 rule3 rule4 rule5 rule6 finiteRule rule9 rule11 columnRules columnVerdict columnExact rule12 minusProducts pivot quotient below factorColumn cholesky forward backwardRows backward iterate grow tabulate all every entry height placeOf load storeColumn store kind finite positive root squaresTo exact judged triangle packedPlace blockedPlace blockWork toBits ofBits mul sub div lt
+unfolding rows rearrange rearrangerChecks moved factorize factorChecks factored columnsVerdict columnsExact solve solverChecks solved rhsVerdict rhsPart solution solutions clear plainPipeline blockedPipeline firstRefusal lowestRefusal rule1 rule2 rule3 rule4 rule5 rule6 finiteRule rule9 rule11 weak rule16 columnRules columnVerdict columnExact rule12 minusProducts pivot quotient below factorColumn cholesky forward backwardRows backward iterate grow tabulate all every entry height placeOf load storeColumn store kind finite positive root squaresTo exact judged triangle packedPlace blockedPlace blockWork toBits ofBits mul sub div lt
 examples-hold = tt

@@ -12,4 +12,5 @@ pub mod Agreement
 pub mod Entries
 pub mod Pivots
 pub mod Exactness
+pub mod WeakColumns
 pub mod Examples

@@ -11,7 +11,7 @@ use Rattle.binary64.specs.Kinds.{finite, positive}
 use Rattle.binary64.proofs.Differences.{belowInfinity, below-cases}
 use Rattle.calls.specs.declared.Verdict.{Verdict}
 use Rattle.calls.specs.Sequences.{all}
-use Rattle.calls.specs.Triangles.{Triangle, height}
+use Rattle.calls.specs.Triangles.{Triangle, entry, height}
 use Rattle.calls.specs.Arithmetic.{pivot, below}
 use Rattle.calls.specs.Refusals.{columnVerdict}
 use Rattle.calls.specs.Calls.{judgeColumn, columnsVerdict}
@@ -30,7 +30,7 @@ verdict-10 n a given e =
     let found : Lowest judge n (columnsVerdict n a) = lowest-refused judge n (subst (λ c. T (not (eqb c 0))) (sym e) tt) in
     let j : ℕ = found .at in
     let here : (judge j .value ≡ pivot a (columns n a j) j) × T (not (positive (pivot a (columns n a j) j))) =
-    rules-10 j (pivot a (columns n a j) j) (all finite (below (height n) a j (columns n a j))) (ap (λ (r : Verdict). r .code) (sym (found .there)) ∙ e)
+    rules-10 j (entry a j j) (pivot a (columns n a j) j) (all finite (below (height n) a j (columns n a j))) (ap (λ (r : Verdict). r .code) (sym (found .there)) ∙ e)
     in
     let is : columnsVerdict n a .value ≡ pivot a (columns n a j) j = ap (λ (r : Verdict). r .value) (found .there) ∙ here .0 in
     let under : T (fits binary64 (pivot a (columns n a j) j)) × T (belowInfinity (pivot a (columns n a j) j)) =

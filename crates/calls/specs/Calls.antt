@@ -92,7 +92,7 @@ judgeColumn n a = λ j. columnVerdict (height n) a (cholesky (height n) a j) j
 abbrev pub exactColumn : ℕ → Triangle → ℕ → Bool
 exactColumn n a = λ j. columnExact a (cholesky (height n) a j) j
 
--- codes 10 and 11, and whether every root is exact
+-- codes 10, 11 and 16, and whether every root is exact
 unfoldable pub columnsVerdict : ℕ → Triangle → Verdict
 columnsVerdict n a = lowestRefusal (judgeColumn n a) n
 
@@ -102,7 +102,7 @@ columnsExact n a = every (exactColumn n a) n
 abbrev pub columnsJudged : ℕ → Triangle → Judgement
 columnsJudged n a = judgement (columnsVerdict n a) (columnsExact n a)
 
--- The columns that are finished in the end: all; or after 10 or 11 those before the place, of the blocked factor those before its block column.
+-- The columns that are finished in the end: all; or after 10, 11 or 16 those before the place, of the blocked factor those before its block column.
 abbrev pub finished : Layout → ℕ → ℕ → Verdict → ℕ
 finished Packed n b verdict = cond (accepted verdict) n (verdict .place)
 finished Blocked n b verdict = cond (accepted verdict) n (blockOf b (verdict .place))

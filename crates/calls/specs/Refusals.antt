@@ -3,8 +3,9 @@ use Prim.Native.Nat.{ℕ, zero, suc, _*_}
 use mathlib.Core.Bool.{Bool, true, false, cond, not, _&&_, _||_}
 use mathlib.Core.List.{List, [], _∷_}
 use lib.Dec.{ltb, eqb}
+use lib.IntN.{negsuc}
 use lib.ListN.{length, getD}
-use lib.Ieee.{Float, nan}
+use lib.Ieee.{Float, nan, fin, binary64, mul, lt}
 use Rattle.binary64.specs.Kinds.{finite, positive, zero64}
 use Rattle.binary64.specs.Judged.{judged, exactRoot}
 use Rattle.binary64.specs.declared.Pivot.{Pivot}
@@ -16,7 +17,7 @@ use Rattle.calls.specs.Sequences.{all}
 use Rattle.calls.specs.declared.Call.{Call}
 use Rattle.calls.specs.declared.Call.the-variants.{Rearranger, Factor, Solver}
 use Rattle.calls.specs.declared.Layout.the-variants.{Packed, Blocked}
-use Rattle.calls.specs.Triangles.{Triangle}
+use Rattle.calls.specs.Triangles.{Triangle, entry}
 use Rattle.calls.specs.Arithmetic.{pivot, below}
 
 -- A rule answers a code, a place and a binary64 value, its verdict; success is 0, 0, +0. What a call returns is made from its verdict in Calls.antt.
@@ -103,13 +104,21 @@ rule10 j (Refused v) = refusal 10 j v
 unfoldable pub rule11 : ℕ → Bool → Verdict
 rule11 j finiteBelow = refuseIf (not finiteBelow) (refusal 11 j zero64)
 
--- a column's rules, in checking order
-unfoldable pub columnRules : ℕ → Pivot → Bool → Verdict
-columnRules j judgedPivot finiteBelow = firstRefusal (rule10 j judgedPivot ∷ rule11 j finiteBelow ∷ [])
+-- 16. A column is weak (place: the column; value: the pivot): its pivot is greater than zero but not greater than a(j,j) × 2^−40, that product
+-- rounded once and a(j,j) taken at entry.
+unfoldable pub weak : Float → Float → Bool
+weak entered p = positive p && not (lt (mul binary64 entered (fin false 1 (negsuc 39))) p)
+
+unfoldable pub rule16 : ℕ → Float → Float → Verdict
+rule16 j entered p = refuseIf (weak entered p) (refusal 16 j p)
+
+-- a column's rules, in checking order: on a(j,j) at entry, on its pivot, and on whether the entries below are finite
+unfoldable pub columnRules : ℕ → Float → Float → Bool → Verdict
+columnRules j entered p finiteBelow = firstRefusal (rule10 j (judged p) ∷ rule11 j finiteBelow ∷ rule16 j entered p ∷ [])
 
 -- column j judged, the columns of l before it being known
 unfoldable pub columnVerdict : (ℕ → ℕ) → Triangle → Triangle → ℕ → Verdict
-columnVerdict heightOf a l j = columnRules j (judged (pivot a l j)) (all finite (below heightOf a j l))
+columnVerdict heightOf a l j = columnRules j (entry a j j) (pivot a l j) (all finite (below heightOf a j l))
 
 -- whether its root is exact
 unfoldable pub columnExact : Triangle → Triangle → ℕ → Bool

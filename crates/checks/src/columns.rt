@@ -1,32 +1,59 @@
 // The rules that judge a column of a factor. Both factors call this one function.
 ghost use mathlib.Core.Path.{_≡_};
-ghost use Rattle.binary64.specs.Judged.{exactRoot};
-ghost use Rattle.calls.specs.Refusals.{columnRules};
+ghost use mathlib.Core.Bool.{false};
+ghost use Rattle.binary64.specs.Judged as Judged;
+ghost use Rattle.calls.specs.Refusals as Refusals;
+ghost use Rattle.calls.specs.Refusals.{rule11, weak, columnRules};
 ghost use Rattle.calls.specs.Judgements.{judgement};
 use binary64::Pivot;
 use calls::Judgement;
 use calls::Verdict;
 use calls::refusal;
 
-// Rules 10 and 11 of column j, in their order: on its judged pivot, and on whether the entries below it are finite. An accepted column is as exact as its root.
-pub fn judge_column(j: usize, pivot: Pivot, finite: bool) -> Judgement
-    ensures { λ r. ⌜ r ≡ judgement (columnRules j pivot finite) (exactRoot pivot) ⌝ }
+// 2^−40
+const WEAK_BELOW: f64 = 9.094947017729282e-13;
+
+// Greater than zero, but not greater than the part of the diagonal value at entry that may be rounding.
+fn is_weak(entered: f64, pivot: f64) -> bool
+    ensures { λ r. ⌜ r ≡ weak entered pivot ⌝ }
 {
-    match pivot {
-        Pivot::Refused(value) => Judgement {
-            verdict: Verdict {
-                code: 10,
-                place: j,
-                value,
-            },
-            exact: false,
+    (pivot > 0.0) & !(pivot > entered * WEAK_BELOW)
+}
+
+fn refused(code: usize, j: usize, value: f64) -> Judgement
+    ensures { λ r. ⌜ r ≡ record { verdict = Refusals.refusal code j value; exact = false } ⌝ }
+{
+    Judgement {
+        verdict: Verdict {
+            code,
+            place: j,
+            value,
         },
+        exact: false,
+    }
+}
+
+// Column j where nothing but an entry below that is not finite refuses it.
+pub fn refused_below(j: usize) -> Judgement
+    ensures { λ r. ⌜ r ≡ record { verdict = rule11 j false; exact = false } ⌝ }
+{
+    refused(11, j, 0.0)
+}
+
+// Rules 10, 11 and 16 of column j, in their order: on its pivot as judged, on whether the entries below are finite, and on the pivot beside the diagonal value
+// at entry. An accepted column is as exact as its root.
+pub fn judge_column(j: usize, entered: f64, pivot: f64, judged: Pivot, finite: bool) -> Judgement
+    requires { ⌜ judged ≡ Judged.judged pivot ⌝ }
+    ensures { λ r. ⌜ r ≡ judgement (columnRules j entered pivot finite) (Judged.exactRoot judged) ⌝ }
+{
+    match judged {
+        Pivot::Refused(value) => refused(10, j, value),
         Pivot::Root(_, exact) => {
             if !finite {
-                return Judgement {
-                    verdict: refusal(11, j),
-                    exact: false,
-                };
+                return refused_below(j);
+            }
+            if is_weak(entered, pivot) {
+                return refused(16, j, pivot);
             }
             Judgement {
                 verdict: refusal(0, 0),

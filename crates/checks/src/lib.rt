@@ -9,6 +9,7 @@ mod columns;
 mod rules;
 
 pub use columns::judge_column;
+pub use columns::refused_below;
 pub use rules::Values;
 pub use rules::check_factor;
 pub use rules::check_finite;

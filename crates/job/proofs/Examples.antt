@@ -15,7 +15,7 @@ use Rattle.shape.specs.Places.{triangle, packedPlace, blockedPlace, blockWork}
 use Rattle.calls.specs.Sequences.{iterate, grow, tabulate, all}
 use Rattle.calls.specs.Triangles.{entry, height, placeOf, load, storeColumn, store}
 use Rattle.calls.specs.Arithmetic.{minusProducts, pivot, quotient, below, factorColumn, cholesky, forward, backwardRows, backward}
-use Rattle.calls.specs.Refusals.{firstRefusal, lowestRefusal, rule1, rule2, rule3, rule4, rule5, rule6, finiteRule, rule9, rule11, columnRules, columnVerdict, rule12}
+use Rattle.calls.specs.Refusals.{firstRefusal, lowestRefusal, rule1, rule2, rule3, rule4, rule5, rule6, finiteRule, rule9, rule11, weak, rule16, columnRules, columnVerdict, rule12}
 use Rattle.calls.specs.Calls.{rearrange, rearrangerChecks, moved, factorize, factorChecks, factored, columnsVerdict, solve, solverChecks, solved, rhsVerdict, rhsPart, solution, solutions, clear}
 use Rattle.calls.specs.Pipelines.{blockedPipeline}
 use Rattle.job.specs.Reading.{littleEndian, field, bounded, value, values}
@@ -104,12 +104,13 @@ table =
     row (file 2 1 1 (0x06 ∷ []) (0x3ff0_0000_0000_0000 ∷ 0x7ff0_0000_0000_0000 ∷ 0 ∷ 0 ∷ [])) "JOB 2 1 1\nEND 7 2\n" ∷
     row (file 2 1 1 (0x06 ∷ []) (0x3ff0_0000_0000_0000 ∷ 0 ∷ 0 ∷ 0xfff8_0000_0000_0001 ∷ [])) "JOB 2 1 1\nEND 8 1\n" ∷
     row (file 1 1 1 (0x01 ∷ []) (0x7ff8_0000_0000_0000 ∷ 0x7ff0_0000_0000_0000 ∷ [])) "JOB 1 1 1\nEND 7 0\n" ∷
-    -- 10, 11 and 12: packed 1, 1, 1; packed 2^−1000, 2^600, 1; factor 2^−500, right-hand side 2^600
+    -- 10, 11, 12 and 16: packed 1, 1, 1; packed 2^−1000, 2^600, 1; factor 2^−500, right-hand side 2^600; packed 1, 1, 1 + 2^−52
     row (file 2 200 0 (0x07 ∷ []) (0x3ff0_0000_0000_0000 ∷ 0x3ff0_0000_0000_0000 ∷ 0x3ff0_0000_0000_0000 ∷ [])) "JOB 2 200 0\nEND 10 1\n" ∷
     row (file 2 1 0 (0x07 ∷ []) (0x0170_0000_0000_0000 ∷ 0x6570_0000_0000_0000 ∷ 0x3ff0_0000_0000_0000 ∷ [])) "JOB 2 1 0\nEND 11 0\n" ∷
     row (file 1 1 1 (0x01 ∷ []) (0x0170_0000_0000_0000 ∷ 0x6570_0000_0000_0000 ∷ [])) "JOB 1 1 1\nEND 12 0\n" ∷
+    row (file 2 2 1 (0x07 ∷ []) (0x3ff0_0000_0000_0000 ∷ 0x3ff0_0000_0000_0000 ∷ 0x3ff0_0000_0000_0001 ∷ 0 ∷ 0 ∷ [])) "JOB 2 2 1\nEND 16 1\n" ∷
     []
 
 examples : T (allListed table)
-unfolding allListed table row lists job littleEndian field bounded value values readSizes mapBytes mapBit padded readMap readValues readJob digits decimal hexDigit hexadecimal jobLine valueLine valueLines endLine jobEnded jobResult solutionLines resultLines blockedPipeline rearrange rearrangerChecks moved factorize factorChecks factored columnsVerdict solve solverChecks solved rhsVerdict rhsPart solution solutions clear firstRefusal lowestRefusal rule1 rule2 rule3 rule4 rule5 rule6 finiteRule rule9 rule11 columnRules columnVerdict rule12 minusProducts pivot quotient below factorColumn cholesky forward backwardRows backward iterate grow tabulate all entry height placeOf load storeColumn store kind finite positive root judged triangle packedPlace blockedPlace blockWork toBits ofBits mul sub div lt
+unfolding allListed table row lists job littleEndian field bounded value values readSizes mapBytes mapBit padded readMap readValues readJob digits decimal hexDigit hexadecimal jobLine valueLine valueLines endLine jobEnded jobResult solutionLines resultLines blockedPipeline rearrange rearrangerChecks moved factorize factorChecks factored columnsVerdict solve solverChecks solved rhsVerdict rhsPart solution solutions clear firstRefusal lowestRefusal rule1 rule2 rule3 rule4 rule5 rule6 finiteRule rule9 rule11 weak rule16 columnRules columnVerdict rule12 minusProducts pivot quotient below factorColumn cholesky forward backwardRows backward iterate grow tabulate all entry height placeOf load storeColumn store kind finite positive root judged triangle packedPlace blockedPlace blockWork toBits ofBits mul sub div lt
 examples = tt

@@ -10,7 +10,6 @@ use lib.Ieee.{Float, nan, binary64, div}
 use Rattle.binary64.specs.Kinds.{finite}
 use Rattle.binary64.specs.Root.{root}
 use Rattle.binary64.specs.Judged.{judged, exactRoot}
-use Rattle.binary64.specs.declared.Pivot.{Pivot}
 use Rattle.shape.specs.Places.{triangle, packedPlace}
 use Rattle.shape.specs.Layouts.{Entry}
 use Rattle.shape.proofs.Bijections.{packed-bijection}
@@ -113,7 +112,9 @@ module _ (n : ℕ) (m : List Float) (size : length m ≡ triangle n) where
 
     prefix-rules : columnVerdict (height n) t t j ≡ columnVerdict (height n) a l j
     unfolding columnVerdict
-    prefix-rules = ap₂ (λ x xs. columnRules j (judged x) (all finite xs)) prefix-pivot prefix-below
+    prefix-rules =
+        ap (λ e. columnRules j e (pivot t t j) (all finite (below (height n) t j t))) (prefix-column j (omega arith) inside)
+        ∙ ap₂ (λ x xs. columnRules j (entry a j j) x (all finite xs)) prefix-pivot prefix-below
 
     prefix-exact : columnExact t t j ≡ columnExact a l j
     unfolding columnExact
@@ -153,8 +154,11 @@ module _ (n : ℕ) (m : List Float) (size : length m ≡ triangle n) (j : ℕ) (
   column-is = prefix-judged n m size j s s′ r inside written column .0
 
   module _ (answer : Judgement) (joined : answer ≡ judgedTo (ruleOf n m) (exactOf n m) (j + 1)) where
-    abbrev pivotHere : Pivot
-    pivotHere = judged (pivot (held n m) (columns n (held n m) j) j)
+    abbrev enteredHere : Float
+    enteredHere = entry (held n m) j j
+
+    abbrev pivotHere : Float
+    pivotHere = pivot (held n m) (columns n (held n m) j) j
 
     abbrev finiteBelow : Bool
     finiteBelow = all finite (below (height n) (held n m) j (columns n (held n m) j))
@@ -173,12 +177,12 @@ module _ (n : ℕ) (m : List Float) (size : length m ≡ triangle n) (j : ℕ) (
         let refused : accepted (ruleOf n m j) ≡ false = ap accepted (sym verdict-is) ∙ f in
         record {
           result = joined ∙ judged-stays (ruleOf n m) (exactOf n m) (j + 1) n (omega arith) (ap (λ (x : Judgement). accepted (x .verdict)) (sym joined) ∙ f);
-          matrix = memory-is f ∙ rw (verdict-is, refused, rules-place j pivotHere finiteBelow refused) refl;
+          matrix = memory-is f ∙ rw (verdict-is, refused, rules-place j enteredHere pivotHere finiteBelow refused) refl;
         }
 
     pub columns-continued : accepted (answer .verdict) ≡ true → (s′ ≡ prefixOf n m (j + 1)) × (lowestRefusal (ruleOf n m) (j + 1) ≡ success)
     unfolding columnVerdict
     columns-continued t = (
       rw add-one (memory-is t),
-      lowest-next (ruleOf n m) j before ∙ rules-success j pivotHere finiteBelow (rw (ap accepted (sym verdict-is) ∙ t) tt),
+      lowest-next (ruleOf n m) j before ∙ rules-success j enteredHere pivotHere finiteBelow (rw (ap accepted (sym verdict-is) ∙ t) tt),
     )

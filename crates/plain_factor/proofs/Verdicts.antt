@@ -6,7 +6,6 @@ use mathlib.Core.Path.{_≡_, refl, sym, ap, ap₂, _∙_}
 use mathlib.Core.Bool.{Bool, true, false, cond}
 use mathlib.Core.Logic.{_≢_}
 use mathlib.Core.List.{List, _∷_}
-use borrow.Author.Tests.{ne-eqb}
 use borrow.Rule.Slice.PartAt.{part-to-end}
 use lib.ListN.{length, getD, set, take, drop, length-drop}
 use lib.Seq.{getD-drop, drop-cons, getD-set-same, getD-set-other}
@@ -29,7 +28,7 @@ use Rattle.calls.proofs.Sequences.{tabulate-of}
 use Rattle.calls.proofs.Triangles.{entry-load, column-other}
 use Rattle.calls.proofs.Columns.{length-column, products-same}
 use Rattle.kernels.proofs.Parts.{filled-here}
-use Rattle.calls.proofs.ColumnRules.{judged-root, rules-accepted, rules-pivot}
+use Rattle.calls.proofs.ColumnRules.{judged-root, rules-refused}
 use Rattle.plain_factor.specs.Steps.{Column, reduced, Reduced, held, RowsDivided, Divided, Judged}
 
 -- ---- formulas
@@ -92,41 +91,51 @@ module _ (n j : ℕ) (m w : List Float) (s : Column n j m) (size : length w ≡ 
   abbrev x : Float
   x = pivot (held n m) (held n m) j
 
-  column-pivot : {p : Pivot} → p ≡ judged (getD w j nan) → p ≡ judged x
-  column-pivot e = e ∙ ap judged (rows j (omega arith) (s .column) ∙ pivot-held n j m (s .column))
+  pivot-is : getD w j nan ≡ x
+  pivot-is = rows j (omega arith) (s .column) ∙ pivot-held n j m (s .column)
 
-  -- a refused pivot decides, whatever stands below it
-  pub pivot-refused :
-      {p : Pivot} {v : Float} {r : Judgement} →
-      p ≡ judged (getD w j nan) → p ≡ Refused v → r ≡ judgement (columnRules j p true) (exactRoot p) → Judged n j m r m
-  unfolding columnVerdict columnExact
-  pivot-refused {p} is e er =
-      let here : p ≡ judged x = column-pivot is in
-      let no : accepted (columnRules j p true) ≡ false =
-      ne-eqb (columnRules j p true .code) 0
-      (λ h. let z : _≡_ {A = ℕ} 0 1 = cc (rules-accepted j x true (rw (← here, h) tt) .0) in omega arith)
-      in
-      record {
-        result =
-            er
-            ∙ ap₂ judgement (sym (rules-pivot j p (all finite (below (height n) (held n m) j (held n m))) no) ∙ rw here) (ap exactRoot here);
-        matrix = rw (er, no);
-      }
+  -- what the column's rules say of the values in memory they say of the column
+  rules-are :
+      (f : Bool) → judgement (columnRules j (getD m (packedPlace n j j) nan) (getD w j nan) f) (exactRoot (judged (getD w j nan)))
+      ≡ judgement (columnRules j (entry (held n m) j j) x f) (exactRoot (judged x))
+  rules-are f =
+      ap₂ (λ e v. judgement (columnRules j e v f) (exactRoot (judged v)))
+      (sym (entry-load (packedPlace n) n m j j (record { lower = omega arith; inside = s .column }))) pivot-is
+
+  module _ {p : Pivot} (is : p ≡ judged (getD w j nan)) where
+    -- a refused pivot decides, whatever stands below it
+    pub pivot-refused :
+        {v : Float} {r : Judgement} → p ≡ Refused v → r ≡ judgement (columnRules j (getD m (packedPlace n j j) nan) (getD w j nan) true) (exactRoot p) →
+        Judged n j m r m
+    unfolding columnVerdict columnExact
+    pivot-refused {v} {r} e er =
+        let here : judged x ≡ Refused v = ap judged (sym pivot-is) ∙ sym is ∙ e in
+        let all-below : Bool = all finite (below (height n) (held n m) j (held n m)) in
+        let result : r ≡ judgement (columnRules j (entry (held n m) j j) x true) (exactRoot (judged x)) = er ∙ (rw is) ∙ rules-are true in
+        record {
+          result =
+              result
+              ∙ ap (λ v. judgement v (exactRoot (judged x))) (rules-refused j (entry (held n m) j j) x v true here ∙ sym (rules-refused j (entry (held n m) j j) x v all-below here));
+          matrix = rw (result, rules-refused j (entry (held n m) j j) x v true here);
+        }
 
   module _ (d : Float) (t : Bool) (w′ : List Float) (finiteRows : Bool) (is : Root d t ≡ judged (getD w j nan)) (size′ : length w′ ≡ n)
       (divided : Divided j d w w′ finiteRows) where
     root-is : d ≡ root x
-    root-is = judged-root x d t (sym (column-pivot is))
+    root-is = judged-root x d t (ap judged (sym pivot-is) ∙ sym is)
 
     pub column-judged :
-        {r : Judgement} {m′ : List Float} → r ≡ judgement (columnRules j (Root d t) finiteRows) t →
+        {r : Judgement} {m′ : List Float} →
+        r ≡ judgement (columnRules j (getD m (packedPlace n j j) nan) (getD w j nan) finiteRows) t →
         m′ ≡ cond (accepted (r .verdict)) (storeColumn (packedPlace n) j (drop j w′) m) m → Judged n j m r m′
     unfolding columnVerdict columnExact
     column-judged {r} er stored =
         record {
           result =
               er
-              ∙ ap₂ (λ p f. judgement (columnRules j p f) (exactRoot p)) (column-pivot is)
+              ∙ ap (λ p. judgement (columnRules j (getD m (packedPlace n j j) nan) (getD w j nan) finiteRows) (exactRoot p)) is
+              ∙ rules-are finiteRows
+              ∙ ap (λ f. judgement (columnRules j (entry (held n m) j j) x f) (exactRoot (judged x)))
               (divided .finites ∙ ap (all finite) (below-held n j m w w′ d finiteRows size size′ (s .column) rows divided root-is));
           matrix =
               stored

@@ -382,12 +382,14 @@ fn finish_column(matrix: &mut [f64], work: &mut [f64], n: usize, j: usize) -> Ju
     ensures { λ r. ⌜ Judged n j (now (matrix .entry)) r (now (matrix .exit)) ⌝ }
     ensures { λ _. ⌜ Same 0 j (now (work .entry)) (now (work .exit)) ⌝ }
 {
-    let pivot = binary64::judge(work[j]);
+    let entered = matrix[row_start(n, j) + j];
+    let value = work[j];
+    let pivot = binary64::judge(value);
     match pivot {
-        Pivot::Refused(_) => checks::judge_column(j, pivot, true),
+        Pivot::Refused(_) => checks::judge_column(j, entered, value, pivot, true),
         Pivot::Root(diagonal, _) => {
             let finite = divide_rows(work, j, diagonal);
-            let judged = checks::judge_column(j, pivot, finite);
+            let judged = checks::judge_column(j, entered, value, pivot, finite);
             let verdict = judged.verdict;
             if calls::accepted(verdict) {
                 store_column(matrix, work, n, j);

@@ -1,9 +1,8 @@
 -- `blocked_factor::finish_diagonal` meets its contract. Assumes nothing.
-use Prim.Native.Nat.{_+_, _-_, _<_}
+use Prim.Native.Nat.{_+_, _<_}
 use native.Mathlib.Omega.{arith}
-use mathlib.Core.Path.{ap, _∙_}
+use mathlib.Core.Path.{_∙_}
 use lib.ListN.{length}
-use Rattle.binary64.specs.Judged.{judged}
 use Rattle.blocked_factor.specs.BlockColumns.{rowStart}
 use Rattle.blocked_factor.proofs.BlockRows.{row-next}
 use Rattle.blocked_factor.proofs.Finishing.{diagonal-finished}
@@ -14,9 +13,14 @@ use Rattle.blocked_factor.proofs.finish_diagonal.Tie as tie
 place-in-block-requires : tie.Need-place-in-block-requires
 place-in-block-requires c κs = search needs
 
--- the diagonal lies in the memory
-room : (c : tie.After-slice-known) → let a = c .before .args in rowStart (a .width) (a .s) + a .s < length (a .part .now)
-room c = omega (arith, c .before .pre, row-next (c .before .args .width) (c .before .args .s))
+-- the diagonal lies in both memories
+room : (c : tie.After-shared-slice-known)
+    → let a = c .before .before .args in
+    (rowStart (a .width) (a .s) + a .s < length (a .part .now)) × (rowStart (a .width) (a .s) + a .s < length (a .saved .now))
+room c =
+    let start = c .before .before in
+    let next = row-next (start .args .width) (start .args .s) in
+    (omega (arith, start .pre), omega (arith, start .pre))
 
 add-y : tie.Need-add-y
 add-y c = omega (arith, c .place-in-block .ensures, room (c .before))
@@ -51,6 +55,16 @@ mul-part c = omega (arith, c .before .before .before .before .place-in-block .en
 slice-write-part : tie.Need-slice-write-part
 slice-write-part c = omega (arith, c .before .before .before .before .place-in-block .ensures, room (c .before .before .before .before .before))
 
+add-entered : tie.Need-add-entered
+add-entered c = omega (arith, c .before .before .before .before .place-in-block .ensures, room (c .before .before .before .before .before))
+
+mul-entered : tie.Need-mul-entered
+mul-entered c = omega (arith, c .before .before .before .before .place-in-block .ensures, room (c .before .before .before .before .before))
+
+shared-slice-read-entered : tie.Need-shared-slice-read-entered
+shared-slice-read-entered c =
+    omega (arith, c .before .before .before .before .before .place-in-block .ensures, room (c .before .before .before .before .before .before))
+
 add-judge-column : tie.Need-add-judge-column
 add-judge-column c = search needs
 
@@ -65,14 +79,15 @@ same-length c = search needs
 
 returns : tie.Need-returns
 returns c =
-    let start = c .before .before .before .before .before .before .before .before in
+    let start = c .before .before .before .before .before .before .before .before .before .before in
     let a = start .args in
-    let place = c .before .before .before .before .before .before .place-in-block .ensures in
-    let judge = c .before .before .before .judge in
-    rw (place, c .before .before .diagonal-of .ensures)
-    (diagonal-finished (a .c) (a .width) (a .s0) (a .s) (a .before) (c .joined .result) (a .part .now) (omega (arith, start .pre)) (omega (arith, start .pre))
-    (omega (arith, start .pre)) (judge .result) (judge .ensures ∙ ap judged (rw place at (c .before .before .before .before .minus-products .ensures)))
-    (λ rules exact k before column. c .joined .ensures rules exact k before (c .before .judge-column .ensures ∙ column)))
+    let place = c .before .before .before .before .before .before .before .place-in-block .ensures in
+    let judge = c .before .before .before .before .judge in
+    rw (place, c .before .before .before .diagonal-of .ensures)
+    (diagonal-finished (a .c) (a .width) (a .s0) (a .s) (a .saved .now) (a .before) (c .joined .result) (a .part .now) (omega (arith, start .pre))
+    (omega (arith, start .pre)) (omega (arith, start .pre)) (c .before .before .before .before .before .minus-products .result) (judge .result)
+    (rw place at (c .before .before .before .before .before .minus-products .ensures)) (judge .ensures)
+    (λ rules exact k before column. c .joined .ensures rules exact k before ((rw place at (c .before .judge-column .ensures)) ∙ column)))
 
 pub finish-diagonal-spec : {M : Type 1} → statement M
 finish-diagonal-spec =
@@ -90,6 +105,9 @@ finish-diagonal-spec =
     add-part
     mul-part
     slice-write-part
+    add-entered
+    mul-entered
+    shared-slice-read-entered
     add-judge-column
     judge-column-requires
     joined-requires

@@ -1,0 +1,161 @@
+-- What rule 16 says and what it changed. Code 16 names a weak column with its pivot, which is finite and greater than zero: no NaN and no infinity. A factor
+-- that does not answer 16, as where no column is weak, returns and leaves what it did before the rule. Assumes nothing.
+use Prim.Native.Nat.{ℕ, zero, suc, _<_}
+use native.Mathlib.Omega.{arith}
+use mathlib.Core.Path.{_≡_, refl, sym, ap, _∙_, subst}
+use mathlib.Core.Logic.{_≢_}
+use mathlib.Core.Bool.{Bool, true, false, cond, not}
+use mathlib.Core.List.{List, [], _∷_}
+use lib.Dec.{T, eqb}
+use lib.ListN.{length}
+use lib.Ieee.{Float}
+use lib.Ieee.Fits.{and-l}
+use Rattle.binary64.specs.Kinds.{finite, positive}
+use Rattle.binary64.specs.Judged.{judged}
+use Rattle.calls.specs.declared.Verdict.{Verdict}
+use Rattle.calls.specs.declared.Layout.{Layout}
+use Rattle.calls.specs.declared.Call.the-variants.{Factor}
+use Rattle.calls.specs.Sequences.{all}
+use Rattle.calls.specs.Triangles.{Triangle, entry, height, placeOf, load, store}
+use Rattle.calls.specs.Arithmetic.{pivot, below, cholesky}
+use Rattle.calls.specs.Refusals.{accepted, neededWork, firstRefusal, lowestRefusal, rule10, rule11, weak, columnRules, columnVerdict}
+use Rattle.calls.specs.Judgements.{judgement}
+use Rattle.calls.specs.Calls.{Done, resultOf, judgedResult, clear, factorChecks, judgeColumn, columnsVerdict, columnsExact, finished, factored, factorize}
+use Rattle.calls.proofs.Refusals.{Lowest, lowest-refused}
+use Rattle.calls.proofs.ColumnRules.{rules-place, rules-16, rules-without-16}
+use Rattle.calls.proofs.Columns.{columns, FiniteMatrix, pivot-finite, columns-finite}
+
+-- column j of a is weak, the columns of its factor before it being known
+abbrev pub weakColumn : ℕ → Triangle → ℕ → Bool
+weakColumn n a j = weak (entry a j j) (pivot a (cholesky (height n) a j) j)
+
+-- ---- code 16
+
+-- v names a weak column, with its pivot, and all before it pass
+pub record NamesWeak (n : ℕ) (a : Triangle) (v : Verdict) : Type 0 where
+  pub at : ℕ
+  pub inside : at < n
+  pub place : v .place ≡ at
+  pub value : v .value ≡ pivot a (cholesky (height n) a at) at
+  pub isWeak : T (weakColumn n a at)
+  pub before : (k : ℕ) → k < at → T (accepted (judgeColumn n a k))
+
+module _ (n : ℕ) (a : Triangle) (e : columnsVerdict n a .code ≡ 16) where
+  pub verdict-16 : NamesWeak n a (columnsVerdict n a)
+  unfolding columnsVerdict columnVerdict
+  verdict-16 =
+      let found : Lowest (judgeColumn n a) n (columnsVerdict n a) = lowest-refused (judgeColumn n a) n (subst (λ c. T (not (eqb c 0))) (sym e) tt) in
+      let j : ℕ = found .at in
+      let p : Float = pivot a (cholesky (height n) a j) j in
+      let f : Bool = all finite (below (height n) a j (cholesky (height n) a j)) in
+      let code : columnRules j (entry a j j) p f .code ≡ 16 = ap (λ (r : Verdict). r .code) (sym (found .there)) ∙ e in
+      record {
+        at = j;
+        inside = found .inside;
+        place = ap (λ (r : Verdict). r .place) (found .there) ∙ rules-place j (entry a j j) p f (ap (λ c. eqb c 0) code);
+        value = ap (λ (r : Verdict). r .value) (found .there) ∙ rules-16 j (entry a j j) p f code .0;
+        isWeak = rules-16 j (entry a j j) p f code .1;
+        before = found .before;
+      }
+
+  pub value-16 : FiniteMatrix n a → T (finite (columnsVerdict n a .value)) × T (positive (columnsVerdict n a .value))
+  unfolding weak
+  value-16 given =
+      let j : ℕ = verdict-16 .at in
+      let p : Float = pivot a (cholesky (height n) a j) j in
+      let above : T (positive p) = and-l (positive p) _ (verdict-16 .isWeak) in
+      let low : j < n = verdict-16 .inside in
+      let under : T (finite p) = pivot-finite n a given j low (columns-finite n a given j (omega (arith, low)) (verdict-16 .before)) above in
+      rw (verdict-16 .value) (under, above)
+
+-- ---- the rules before it
+
+abbrev pub formerRules : ℕ → Float → Bool → Verdict
+formerRules j p finiteBelow = firstRefusal (rule10 j (judged p) ∷ rule11 j finiteBelow ∷ [])
+
+abbrev pub formerColumn : ℕ → Triangle → ℕ → Verdict
+formerColumn n a = λ j. formerRules j (pivot a (cholesky (height n) a j) j) (all finite (below (height n) a j (cholesky (height n) a j)))
+
+abbrev pub formerVerdict : ℕ → Triangle → Verdict
+formerVerdict n a = lowestRefusal (formerColumn n a) n
+
+-- `factored` and `factorize` with these
+abbrev pub formerFactored : Layout → ℕ → ℕ → List Float → List Float → Done
+formerFactored layout n b matrix work =
+    let a = load (placeOf layout n b) (height n) n matrix in
+    let verdict = formerVerdict n a in
+    record {
+      result = judgedResult (judgement verdict (columnsExact n a));
+      matrix = store (placeOf layout n b) (cholesky (height n) a (finished layout n b verdict)) matrix;
+      work = clear (neededWork (Factor layout) n b) work;
+    }
+
+abbrev pub formerFactorize : Layout → ℕ → ℕ → List Float → List Float → Done
+formerFactorize layout n b matrix work =
+    let checks = factorChecks layout n b matrix (length work) in
+    cond (accepted checks) (formerFactored layout n b matrix work) (record { result = resultOf checks; matrix = matrix; work = work })
+
+-- ---- where the answer is not 16
+
+-- the lowest refused column decides alike if each does
+lowest-former :
+    (judge former : ℕ → Verdict) → ((k : ℕ) → judge k .code ≢ 16 → judge k ≡ former k) → (n : ℕ) → lowestRefusal judge n .code ≢ 16 →
+    lowestRefusal judge n ≡ lowestRefusal former n
+unfolding lowestRefusal
+lowest-former judge former each zero other = refl
+lowest-former judge former each (suc k) other = go (accepted last) refl other (lowest-former judge former each k)
+  where
+    last : Verdict
+    last = lowestRefusal judge k
+
+    go :
+        (b : Bool) → accepted last ≡ b → cond b (judge k) last .code ≢ 16 → (last .code ≢ 16 → last ≡ lowestRefusal former k) →
+        cond b (judge k) last ≡ cond (accepted (lowestRefusal former k)) (former k) (lowestRefusal former k)
+    go true e other ih =
+        let same : last ≡ lowestRefusal former k = ih (λ h. subst T (sym e ∙ ap (λ c. eqb c 0) h) tt) in
+        rw (← same, e) (each k other)
+    go false e other ih =
+        let same : last ≡ lowestRefusal former k = ih other in
+        rw (← same, e) refl
+
+module _ (n : ℕ) (a : Triangle) where
+  verdict-former : columnsVerdict n a .code ≢ 16 → columnsVerdict n a ≡ formerVerdict n a
+  unfolding columnsVerdict columnVerdict
+  verdict-former other =
+      lowest-former (judgeColumn n a) (formerColumn n a)
+      (λ j. rules-without-16 j (entry a j j) (pivot a (columns n a j) j) (all finite (below (height n) a j (columns n a j)))) n other
+
+  -- so it is where no column is weak
+  not-16 : ((j : ℕ) → j < n → weakColumn n a j ≡ false) → columnsVerdict n a .code ≢ 16
+  not-16 none e =
+      let named : NamesWeak n a (columnsVerdict n a) = verdict-16 n a e in
+      subst T (none (named .at) (named .inside)) (named .isWeak)
+
+-- ---- the call, of both layouts
+
+module _ (layout : Layout) (n b : ℕ) (matrix work : List Float) where
+  abbrev a : Triangle
+  a = load (placeOf layout n b) (height n) n matrix
+
+  abbrev checks : Verdict
+  checks = factorChecks layout n b matrix (length work)
+
+  same-call : (accepted checks ≡ true → columnsVerdict n a .code ≢ 16) → factorize layout n b matrix work ≡ formerFactorize layout n b matrix work
+  unfolding factorize factored
+  same-call other = go (accepted checks) refl
+    where
+      refused : Done
+      refused = record { result = resultOf checks; matrix = matrix; work = work }
+
+      go : (c : Bool) → accepted checks ≡ c → cond c (factored layout n b matrix work) refused ≡ cond c (formerFactored layout n b matrix work) refused
+      go true e = rw (verdict-former n a (other e)) refl
+      go false e = refl
+
+  -- a factor that does not answer 16
+  pub as-before : factorize layout n b matrix work .result .code ≢ 16 → factorize layout n b matrix work ≡ formerFactorize layout n b matrix work
+  unfolding factorize factored
+  as-before other = same-call (λ e h. other (rw e h))
+
+  -- and one without a weak column
+  pub none-weak : ((j : ℕ) → j < n → weakColumn n a j ≡ false) → factorize layout n b matrix work ≡ formerFactorize layout n b matrix work
+  none-weak none = same-call (λ e. not-16 n a none)
