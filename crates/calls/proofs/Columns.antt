@@ -12,9 +12,7 @@ use lib.ListN.{length, getD}
 use lib.Ieee.{Float, nan, binary64, fits, sub, mul}
 use lib.Ieee.Fits.{sub-fits}
 use Rattle.binary64.specs.Kinds.{finite, positive}
-use Rattle.binary64.specs.Root.{root, exact}
-use Rattle.binary64.specs.Judged.{judged}
-use Rattle.binary64.specs.declared.Pivot.the-variants.{Root}
+use Rattle.binary64.specs.Root.{root}
 use Rattle.binary64.proofs.Differences.{belowInfinity, difference-below, finite-below, below-finite}
 use Rattle.binary64.proofs.RootLaws.{root-finite}
 use Rattle.shape.specs.Places.{triangle}
@@ -25,7 +23,7 @@ use Rattle.calls.specs.Arithmetic.{minusProducts, pivot, quotient, below
 use Rattle.calls.specs.Refusals.{accepted, columnVerdict}
 use Rattle.calls.proofs.Sequences.{length-grow, getD-grow, length-tabulate, getD-tabulate, all-at}
 use Rattle.calls.proofs.Triangles.{Shaped, entry-load}
-use Rattle.calls.proofs.ColumnRules.{judged-positive, rules-accepted}
+use Rattle.calls.proofs.ColumnRules.{rules-accepted}
 
 module _ (n : ℕ) (a : Triangle) where
   -- the first k columns
@@ -108,10 +106,7 @@ pub column-accepted :
     T (positive (pivot a l j)) × T (all finite (below heightOf a j l))
 unfolding columnVerdict
 column-accepted heightOf a l j t =
-    let both : (judged (pivot a l j) ≡ Root (root (pivot a l j)) (exact (pivot a l j))) × T (all finite (below heightOf a j l)) =
     rules-accepted j (entry a j j) (pivot a l j) (all finite (below heightOf a j l)) t
-    in
-    (judged-positive (pivot a l j) (both .0), both .1)
 
 -- the matrix's entries are finite values of binary64
 pub record FiniteMatrix (n : ℕ) (a : Triangle) : Type 0 where

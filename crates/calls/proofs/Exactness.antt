@@ -19,12 +19,12 @@ use Rattle.calls.specs.declared.Layout.{Layout}
 use Rattle.calls.specs.declared.Call.the-variants.{Factor}
 use Rattle.calls.specs.Sequences.{all}
 use Rattle.calls.specs.Triangles.{Triangle, entry, height, placeOf, load}
-use Rattle.calls.specs.Arithmetic.{pivot, below, cholesky}
-use Rattle.calls.specs.Refusals.{accepted, byBlocks, columnVerdict, columnExact}
+use Rattle.calls.specs.Arithmetic.{pivot, cholesky}
+use Rattle.calls.specs.Refusals.{accepted, byBlocks, columnExact}
 use Rattle.calls.specs.Calls.{succeeded, resultOf, judgedResult, factorChecks, judgeColumn, exactColumn, columnsVerdict, columnsExact, columnsJudged, factored, factorize}
 use Rattle.calls.proofs.Sequences.{every-at, every-of}
 use Rattle.calls.proofs.Refusals.{lowest-accepted}
-use Rattle.calls.proofs.ColumnRules.{rules-accepted}
+use Rattle.calls.proofs.ColumnRules.{judged-passed}
 use Rattle.calls.proofs.Columns.{columns, entry-diagonal, column-accepted, FiniteMatrix, finite-matrix, pivot-finite, columns-finite}
 use Rattle.calls.proofs.CheckLaws.{FactorAccepted, factor-accepted, factor-refused}
 use Rattle.calls.proofs.Rearranging.{place-bijection}
@@ -58,8 +58,8 @@ module _ (n : ℕ) (a : Triangle) (given : FiniteMatrix n a) (passed : T (accept
 
   -- an accepted column's exactness is that of its root
   column-exact : (j : ℕ) → j < n → columnExact a (columns n a j) j ≡ exact (pivotOf j)
-  unfolding columnExact columnVerdict
-  column-exact j h = ap exactRoot (rules-accepted j (entry a j j) (pivotOf j) (all finite (below (height n) a j (columns n a j))) (each j h) .0)
+  unfolding columnExact
+  column-exact j h = ap exactRoot (judged-passed (pivotOf j) (pivot-positive j h))
 
   -- which is whether the square of l(j,j) is the pivot
   column-squares :
