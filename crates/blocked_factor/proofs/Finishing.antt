@@ -143,13 +143,13 @@ module _
     (c w s0 s : ℕ) (saved : List Float) (before answer : Judgement) (m : List Float) (left : s0 ≤ s) (narrow : s < w)
     (room : rowStart w (s + 1) ≤ length m) where
   pub diagonal-finished :
-      (x : Float) (q : Pivot) →
+      (entered x : Float) (q : Pivot) → entered ≡ getD saved (rowStart w s + s) nan →
       x ≡ minusProducts (rowAt m (rowStart w s + s0)) (rowAt m (rowStart w s + s0)) (s - s0) (getD m (rowStart w s + s0 + (s - s0)) nan) →
       q ≡ judged x →
-      Joined before (judgement (columnRules (c + s) (getD saved (rowStart w s + s0 + (s - s0)) nan) x true) (exactRoot q)) answer →
+      Joined before (judgement (columnRules (c + s) entered x true) (exactRoot q)) answer →
       DiagonalFinished c w s0 s saved before m answer (set m (rowStart w s + s0 + (s - s0)) (rootOf q))
   unfolding columnExact
-  diagonal-finished x q pivot judges joined =
+  diagonal-finished entered x q own pivot judges joined =
       let place : rowStart w s + s0 + (s - s0) ≡ rowStart w s + s = omega arith in
       let p : Float = lessPanel w s0 m s s in
       let d : Float = rootOf q in
@@ -171,12 +171,12 @@ module _
             (λ x none. getD-set-other m (rowStart w s + s) x d nan (none s (omega arith) (omega arith)))
             (λ r l h. let same : r ≡ s = omega arith in rw same here) (λ r. rows-in s (s + 1) (s + 1) limit r)
             (λ r. rows-above s (s + 1) (s + 1) limit r) (λ r. rows-under s (s + 1) (s + 1) limit r);
-        judgement = λ n a e limit high right here stage entered first.
+        judgement = λ n a e limit high right here stage saves first.
             let next : c + s + 1 ≡ c + (s + 1) = omega arith in
-            let own : getD saved (rowStart w s + s0 + (s - s0)) nan ≡ entry a (c + s) (c + s) = rw place (entered .diagonal s narrow) in
             joined (judgePivot n a) (exactColumn n a) (c + s) first
-            (ap (λ z. judgement (columnRules (c + s) (getD saved (rowStart w s + s0 + (s - s0)) nan) x true) (exactRoot z)) judges
-            ∙ ap₂ (λ v z. judgement (columnRules (c + s) v z true) (exactRoot (judged z))) own (value ∙ panel-pivot stage s left right narrow high here))
+            (ap (λ z. judgement (columnRules (c + s) entered x true) (exactRoot z)) judges
+            ∙ ap₂ (λ v z. judgement (columnRules (c + s) v z true) (exactRoot (judged z))) (own ∙ saves .diagonal s narrow)
+            (value ∙ panel-pivot stage s left right narrow high here))
             ∙ ap (pivotsTo n a) next;
       })
 

@@ -1,8 +1,9 @@
 -- `blocked_factor::finish_diagonal` meets its contract. Assumes nothing.
-use Prim.Native.Nat.{_+_, _<_}
+use Prim.Native.Nat.{_+_, _-_, _<_}
 use native.Mathlib.Omega.{arith}
-use mathlib.Core.Path.{_∙_}
-use lib.ListN.{length}
+use mathlib.Core.Path.{_≡_, ap, _∙_}
+use lib.ListN.{length, getD}
+use lib.Ieee.{nan}
 use Rattle.blocked_factor.specs.BlockColumns.{rowStart}
 use Rattle.blocked_factor.proofs.BlockRows.{row-next}
 use Rattle.blocked_factor.proofs.Finishing.{diagonal-finished}
@@ -83,11 +84,14 @@ returns c =
     let a = start .args in
     let place = c .before .before .before .before .before .before .before .place-in-block .ensures in
     let judge = c .before .before .before .before .judge in
+    let at : c .before .before .before .before .before .before .before .place-in-block .result + a .s0 + (a .s - a .s0) ≡ rowStart (a .width) (a .s) + a .s =
+    omega (arith, place, start .pre)
+    in
     rw (place, c .before .before .before .diagonal-of .ensures)
     (diagonal-finished (a .c) (a .width) (a .s0) (a .s) (a .saved .now) (a .before) (c .joined .result) (a .part .now) (omega (arith, start .pre))
-    (omega (arith, start .pre)) (omega (arith, start .pre)) (c .before .before .before .before .before .minus-products .result) (judge .result)
-    (rw place at (c .before .before .before .before .before .minus-products .ensures)) (judge .ensures)
-    (λ rules exact k before column. c .joined .ensures rules exact k before ((rw place at (c .before .judge-column .ensures)) ∙ column)))
+    (omega (arith, start .pre)) (omega (arith, start .pre)) _ (c .before .before .before .before .before .minus-products .result) (judge .result)
+    (ap (λ p. getD (a .saved .now) p nan) at) (rw place at (c .before .before .before .before .before .minus-products .ensures)) (judge .ensures)
+    (λ rules exact k before column. c .joined .ensures rules exact k before (c .before .judge-column .ensures ∙ column)))
 
 pub finish-diagonal-spec : {M : Type 1} → statement M
 finish-diagonal-spec =
