@@ -21,7 +21,7 @@ static void make(memory a, size_t n, unsigned kind) {
             if (kind == 3 && random_bits() % (2 * n) == 0) x = ldexp(random_unit(), (int)(random_bits() % 2040) - 1030);
             if (kind == 4) x = ldexp(x, -1040);
             if (kind == 5) x = i == j ? 1.0 + ldexp(random_unit(), -30) : 1.0 - ldexp(fabs(x), -24);
-            if (kind == 6) x = i == j ? 1.0 + ldexp(random_unit(), -39) : 1.0 - ldexp(fabs(x), -42);
+            if (kind == 6) x = i == j ? 1.0 + ldexp(random_bits() % n ? 4.0 : random_unit(), -40) : 1.0 - ldexp(fabs(x), -44);
             if (!isfinite(x)) x = 1.0;
             a.values[place(PACKED, shape, i, j)] = x;
         }

@@ -249,8 +249,8 @@ fn lowest_overflow(part: &[f64], width: usize, rows: usize) -> usize
     width
 }
 
-// A finished block column judged, `first` being what its columns are judged to by their pivots. The lowest column with an overflow is judged once more, unless
-// one before it is refused; where its pivot refuses it, that is the value.
+// A finished block column judged, `first` being what its columns are judged to by their pivots. The lowest column with an overflow decides, unless one before it
+// is refused. Where its own pivot refuses it, the refusal's value is that pivot, and the column is judged once more.
 fn judge_block(
     part: &[f64],
     saved: &[f64],

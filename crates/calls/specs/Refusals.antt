@@ -104,10 +104,14 @@ rule10 j (Refused v) = refusal 10 j v
 unfoldable pub rule11 : ℕ → Bool → Verdict
 rule11 j finiteBelow = refuseIf (not finiteBelow) (refusal 11 j zero64)
 
+-- 2^−40
+abbrev pub weakRatio : Float
+weakRatio = fin false 1 (negsuc 39)
+
 -- 16. A column is weak (place: the column; value: the pivot): its pivot is greater than zero but not greater than a(j,j) × 2^−40, that product
 -- rounded once and a(j,j) taken at entry.
 unfoldable pub weak : Float → Float → Bool
-weak entered p = positive p && not (lt (mul binary64 entered (fin false 1 (negsuc 39))) p)
+weak entered p = positive p && not (lt (mul binary64 entered weakRatio) p)
 
 unfoldable pub rule16 : ℕ → Float → Float → Verdict
 rule16 j entered p = refuseIf (weak entered p) (refusal 16 j p)

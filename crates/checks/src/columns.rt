@@ -1,4 +1,4 @@
-// The rules that judge a column of a factor. Both factors call this one function.
+// The rules that judge a column of a factor, for both factors.
 ghost use mathlib.Core.Path.{_≡_};
 ghost use mathlib.Core.Bool.{false};
 ghost use Rattle.binary64.specs.Judged as Judged;
@@ -11,15 +11,16 @@ use calls::Verdict;
 use calls::refusal;
 
 // 2^−40
-const WEAK_BELOW: f64 = 9.094947017729282e-13;
+const WEAK_RATIO: f64 = 9.094947017729282e-13;
 
-// Greater than zero, but not greater than the part of the diagonal value at entry that may be rounding.
+// Whether a pivot is greater than zero but not greater than that part of the diagonal value at entry.
 fn is_weak(entered: f64, pivot: f64) -> bool
     ensures { λ r. ⌜ r ≡ weak entered pivot ⌝ }
 {
-    (pivot > 0.0) & !(pivot > entered * WEAK_BELOW)
+    (pivot > 0.0) & !(pivot > entered * WEAK_RATIO)
 }
 
+// A refused column, which no factor is exact with.
 fn refused(code: usize, j: usize, value: f64) -> Judgement
     ensures { λ r. ⌜ r ≡ record { verdict = Refusals.refusal code j value; exact = false } ⌝ }
 {
