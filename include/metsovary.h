@@ -22,7 +22,7 @@
  *    8  a solver: a right-hand-side value is not finite                       its lowest position
  *    9  a solver: a diagonal value is not greater than zero                   its lowest column
  *   10  a factor: a pivot is not greater than zero; value: the pivot          the lowest refused column
- *   11  a factor: an entry below an accepted pivot is not finite              the lowest refused column
+ *   11  a factor: an entry below a pivot greater than zero is not finite      the lowest refused column
  *   12  a solver: a y or an x, of the forward or backward substitution,       the lowest such right-hand side
  *       is not finite
  *   16  a factor: a column is weak, its pivot greater than zero but not       the lowest refused column

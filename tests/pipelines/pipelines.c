@@ -201,6 +201,27 @@ static void at_bound(size_t n, size_t b, size_t column, int neighbour, int scale
         (unsigned long long)to_bits(r.value));
 }
 
+/* A second column whose bound is below the normal numbers, where the product by 2^-40 is rounded: bits of a(1,1) and a(1,0), a(0,0) being 1, and the pivot and the
+ * bound in units of the smallest subnormal. */
+static void subnormal_bound(size_t b) {
+    static const struct { uint64_t diagonal, below, pivot, bound; } rows[] = {
+        {0x18000000000u, 0x1fa3988e1409141eu, 2, 2}, /* 1.5 units are 2 */
+        {0x18000000000u, 0x1fa3988e14090d96u, 3, 2},
+        {0x10000000000u, 0x1f9ffffffffff000u, 1, 1},
+        {0x08000000000u, 0x1f96a09e667f252cu, 1, 0}, /* half a unit is 0 */
+    };
+    for (size_t k = 0; k < sizeof rows / sizeof *rows; k++) {
+        memory a = memory_new(3);
+        a.values[0] = 1.0;
+        a.values[1] = from_bits(rows[k].below);
+        a.values[2] = from_bits(rows[k].diagonal);
+        metsovary_result r = both((metsovary_shape){2, b}, 0, a, memory_new(0), true);
+        bool weak = rows[k].pivot <= rows[k].bound;
+        expect(r.code == (weak ? 16 : 0) && to_bits(r.value) == (weak ? rows[k].pivot : 0), "b %zu: %llu units beside %llu: %llu %016llx", b, (unsigned long long)rows[k].pivot,
+            (unsigned long long)rows[k].bound, (unsigned long long)r.code, (unsigned long long)to_bits(r.value));
+    }
+}
+
 /* A = L·Lᵀ of whole numbers, none of them 0, but in this column, whose diagonal value is the upper neighbour of the sum of the squares before it. The difference is
  * the pivot, without rounding. */
 static void weak_column(size_t n, size_t b, size_t column) {
@@ -318,6 +339,7 @@ int main(void) {
             for (size_t column = 3; column < n; column += 1 + n / 12)
                 for (int neighbour = -1; neighbour <= 1; neighbour++)
                     for (int scale = -300; scale <= 300; scale += 300) at_bound(n, b, column, neighbour, scale);
+    for (size_t b = 1; b <= 3; b++) subnormal_bound(b);
     group("16: every column weak in turn");
     for (size_t n = 2; n <= 12; n++)
         for (size_t b = 1; b <= n + 1; b++)
@@ -332,8 +354,8 @@ int main(void) {
                     weak_and_refused(n, b, p, 10, q);
                     if (q + 1 < n) weak_and_refused(n, b, p, 11, q);
                 }
-    for (size_t p = 1; p < 37; p += 3)
-        for (size_t q = 0; q + 1 < 37; q += 3) {
+    for (size_t p = 1; p < 37; p++)
+        for (size_t q = p % 3; q + 1 < 37; q += 3) {
             weak_and_refused(37, 20, p, 10, q);
             weak_and_refused(37, 20, p, 11, q);
         }

@@ -14,7 +14,7 @@ static void make(memory a, size_t n, enum kind kind) {
         for (size_t i = j; i < n; i++) {
             double x = random_unit();
             if (i == j) x = kind == INDEFINITE ? x * 4 : (double)n * (1.5 + x / 2);
-            if (kind == NEARLY_DEPENDENT) x = i == j ? 1.0 + ldexp(random_unit(), -40) : 1.0 - ldexp(fabs(x), -20);
+            if (kind == NEARLY_DEPENDENT) x = i == j ? 1.0 + ldexp(random_bits() % n ? 4.0 : random_unit(), -40) : 1.0 - ldexp(fabs(x), random_bits() % 64 ? -44 : -20);
             if (kind == SUBNORMAL) x = i == j ? ldexp(fabs(x), -1000) : ldexp(x, -1060);
             if (kind == OVERFLOWING) x = i == j ? ldexp(fabs(x) + 0.1, (int)(random_bits() % 1900) - 1000) : ldexp(x, (int)(random_bits() % 1900) - 1000);
             if (kind == SIGNED_ZEROS) x = i == j ? 4.0 : random_bits() % 2 ? 0.0 : random_bits() % 3 ? -0.0 : x / (double)n;
@@ -67,6 +67,19 @@ static void all_refusals(size_t n) {
     }
     static const double low[] = {0.0, -0.0, -1.0, -5e-324};
     for (size_t j = 0; j < n; j++) {
+        if (j > 0) { /* 16 at each column but the first: l(j,0) is 8, and the rest of row j and of column 0 is zero */
+            memory a = memory_new(triangle(n));
+            make(a, n, DEFINITE);
+            for (size_t i = 1; i < n; i++) a.values[place(PACKED, shape, i, 0)] = 0;
+            for (size_t k = 1; k < j; k++) a.values[place(PACKED, shape, j, k)] = 0;
+            a.values[0] = 4.0;
+            a.values[place(PACKED, shape, j, 0)] = 16.0;
+            a.values[place(PACKED, shape, j, j)] = nextafter(64.0, 65.0);
+            fill_any(work);
+            metsovary_result r = compare_factor(PACKED, shape, a, work);
+            expect(r.code == 16 && r.place == j && r.value == nextafter(64.0, 65.0) - 64.0, "16 at %zu: %llu %llu", j, (unsigned long long)r.code, (unsigned long long)r.place);
+            memory_free(a);
+        }
         for (size_t k = 0; k < 4; k++) { /* 9 and 10 at each column */
             memory a = memory_new(triangle(n)), x = memory_new(n * m);
             make(a, n, DEFINITE);
@@ -147,7 +160,7 @@ int main(void) {
     group("plain factor and solver, some n to 600");
     for (size_t n = 63; n <= 600; n += 89)
         for (int kind = 0; kind < KINDS; kind++) factor_and_solve(n, 2, (enum kind)kind);
-    group("plain refusals 7 to 12 at every position");
+    group("plain refusals 7 to 12 and 16 at every position");
     for (size_t n = 1; n <= 9; n++) all_refusals(n);
     all_refusals(17);
     group("plain lengths and orders");

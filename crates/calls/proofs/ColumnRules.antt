@@ -1,5 +1,5 @@
--- Laws of a column's rules, 10, 11 and 16: what an accepted column says of its pivot and its entries below, and what a refused one says. A rule that is
--- added, or another order, is followed here and by no other law. Assumes nothing.
+-- Laws of a column's rules, 10, 11 and 16: what an accepted column says of its pivot and its entries below, and what a refused one says. All go by one
+-- table, `outcome`: a rule that is added, or another order, changes that, and no law of another file looks into the rules. Assumes nothing.
 use Prim.Native.Nat.{ℕ}
 use native.Mathlib.Omega.{arith}
 use mathlib.Core.Path.{_≡_, refl, _∙_, subst}

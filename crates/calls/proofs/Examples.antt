@@ -308,6 +308,8 @@ rows =
     ∷ isWeak one twoToMinus40
     ∷ isWeak one 0x3D6F_FFFF_FFFF_FFFF
     ∷ not (isWeak one 0x3D70_0000_0000_0001)
+    ∷ isWeak three 0x3D88_0000_0000_0000
+    ∷ not (isWeak three 0x3D88_0000_0000_0001)
     ∷ not (isWeak one 0)
     ∷ not (isWeak one minusOne)
     -- The product is rounded: in units of the smallest subnormal 1 is 1, 1.5 is 2, and 0.5 is 0, below which nothing is weak.
@@ -320,6 +322,10 @@ rows =
     ∷ factors Packed 2 1 2 (one ∷ 0x3FEF_FFFF_FFFF_F000 ∷ one ∷ []) (16, 1, twoToMinus40, false) (one ∷ 0x3FEF_FFFF_FFFF_F000 ∷ one ∷ [])
     ∷ factors Packed 3 1 3 (one ∷ 0 ∷ 0x3FEF_FFFF_FFFF_E000 ∷ one ∷ 0x3EAF_FFFF_FFFF_FFFF ∷ one ∷ []) someInexact
     (one ∷ 0 ∷ 0x3FEF_FFFF_FFFF_E000 ∷ one ∷ 0x3EAF_FFFF_FFFF_FFFF ∷ twoToMinus20 ∷ [])
+    -- What counts is a(j,j) at entry: not a(0,0), and not what the first products leave of it, here 2^−39.
+    ∷ factors Packed 2 1 2 (one ∷ 0 ∷ twoToMinus50 ∷ []) allExact (one ∷ 0 ∷ 0x3E60_0000_0000_0000 ∷ [])
+    ∷ factors Packed 3 1 3 (one ∷ 0 ∷ 0x3FEF_FFFF_FFFF_E000 ∷ one ∷ twoToMinus20 ∷ one ∷ []) (16, 2, twoToMinus40, false)
+    (one ∷ 0 ∷ 0x3FEF_FFFF_FFFF_E000 ∷ one ∷ twoToMinus20 ∷ one ∷ [])
     -- Packed 1, 1, 1 + 2^−52: 16, place 1, value 2^−52.
     ∷ factors Packed 2 1 2 (one ∷ one ∷ onePlus ∷ []) (16, 1, twoToMinus52, false) (one ∷ one ∷ onePlus ∷ [])
     ∷ factors Blocked 2 1 2 (one ∷ one ∷ onePlus ∷ []) (16, 1, twoToMinus52, false) (one ∷ one ∷ onePlus ∷ [])
@@ -328,6 +334,11 @@ rows =
     ∷ factors Packed 3 2 3 (four ∷ two ∷ minusTwo ∷ ten ∷ five ∷ fivePlus ∷ []) (16, 2, twoToMinus50, false) (two ∷ one ∷ minusOne ∷ three ∷ two ∷ fivePlus ∷ [])
     ∷ factors Blocked 3 2 6 (four ∷ two ∷ ten ∷ minusTwo ∷ five ∷ fivePlus ∷ []) (16, 2, twoToMinus50, false) (two ∷ one ∷ three ∷ minusOne ∷ two ∷ fivePlus ∷ [])
     ∷ factors Blocked 3 3 9 (four ∷ two ∷ ten ∷ minusTwo ∷ five ∷ fivePlus ∷ []) (16, 2, twoToMinus50, false) (four ∷ two ∷ ten ∷ minusTwo ∷ five ∷ fivePlus ∷ [])
+    -- It ends its pipeline.
+    ∷ ends (plainPipeline 2 2 1 (memory (four ∷ two ∷ onePlus ∷ [])) (memory (four ∷ six ∷ [])) (used 2)) 2
+    (16, 1, twoToMinus52, false) (16, 1, twoToMinus52, false) (two ∷ one ∷ onePlus ∷ []) (four ∷ six ∷ [])
+    ∷ ends (blockedPipeline 2 2 1 (memory (four ∷ two ∷ onePlus ∷ [])) (memory (four ∷ six ∷ [])) (used 4)) 4
+    (16, 1, twoToMinus52, false) (16, 1, twoToMinus52, false) (four ∷ two ∷ onePlus ∷ []) (four ∷ six ∷ [])
     -- A weak column that overflows is 11.
     ∷ factors Packed 3 2 3 (one ∷ one ∷ 0 ∷ onePlus ∷ twoTo1000 ∷ one ∷ []) (11, 1, 0, false) (one ∷ one ∷ 0 ∷ onePlus ∷ twoTo1000 ∷ one ∷ [])
     ∷ factors Blocked 3 2 6 (one ∷ one ∷ onePlus ∷ 0 ∷ twoTo1000 ∷ one ∷ []) (11, 1, 0, false) (one ∷ one ∷ onePlus ∷ 0 ∷ twoTo1000 ∷ one ∷ [])
