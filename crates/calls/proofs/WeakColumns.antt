@@ -97,7 +97,7 @@ formerFactorize layout n b matrix work =
 
 -- ---- where the answer is not 16
 
--- the lowest refused column decides alike if each does
+-- columns that are judged alike unless by 16 have the same lowest refusal unless it is 16
 lowest-former :
     (judge former : ℕ → Verdict) → ((k : ℕ) → judge k .code ≢ 16 → judge k ≡ former k) → (n : ℕ) → lowestRefusal judge n .code ≢ 16 →
     lowestRefusal judge n ≡ lowestRefusal former n
