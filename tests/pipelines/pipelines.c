@@ -222,8 +222,8 @@ static void subnormal_bound(size_t b) {
     }
 }
 
-/* A = L·Lᵀ of whole numbers, none of them 0, but in this column, whose diagonal value is the upper neighbour of the sum of the squares before it. The difference is
- * the pivot, without rounding. */
+/* A = L·Lᵀ of whole numbers, none of them 0, but for this column's diagonal value: the upper neighbour of the sum of the squares before it. Nothing is rounded, and
+ * the difference of the two is the pivot. */
 static void weak_column(size_t n, size_t b, size_t column) {
     metsovary_shape shape = {n, b};
     memory l = memory_new(triangle(n)), a = memory_new(triangle(n));
