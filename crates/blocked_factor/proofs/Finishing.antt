@@ -6,8 +6,8 @@ use native.Mathlib.Omega.{arith}
 use native.Mathlib.Decide.{decLt}
 use mathlib.Core.Path.{_≡_, refl, sym, ap, ap₂, _∙_}
 use mathlib.Core.Bool.{Bool, true, false, cond}
-use mathlib.Core.List.{List}
-use lib.ListN.{length, getD, set, length-set}
+use mathlib.Core.List.{List, _++_}
+use lib.ListN.{length, getD, set, take, drop, length-set}
 use lib.Seq.{getD-set-same, getD-set-other}
 use lib.Ieee.{Float, nan, binary64, div}
 use Rattle.binary64.specs.Kinds.{positive}
@@ -16,12 +16,13 @@ use Rattle.binary64.specs.Judged.{judged, exactRoot}
 use Rattle.binary64.specs.declared.Pivot.{Pivot}
 use Rattle.binary64.specs.declared.Pivot.the-variants.{Root, Refused}
 use Rattle.calls.specs.declared.Judgement.{Judgement}
-use Rattle.calls.specs.Triangles.{Triangle, entry}
+use Rattle.calls.specs.Triangles.{Triangle}
 use Rattle.calls.specs.Arithmetic.{minusProducts}
 use Rattle.calls.specs.Refusals.{columnRules, columnExact}
 use Rattle.calls.specs.Judgements.{judgement, Joined}
 use Rattle.calls.specs.Calls.{exactColumn}
-use Rattle.kernels.specs.Kernels.{Filled, Scattered, rowAt}
+use Rattle.kernels.specs.Kernels.{Filled, Replaced, Scattered, rowAt}
+use Rattle.kernels.proofs.Parts.{length-part, part-replaced}
 use Rattle.blocked_factor.specs.BlockColumns.{rowStart, SameTo, lessPanel, PanelUpdated, ColumnDivided, rootOf}
 use Rattle.blocked_factor.specs.BlockStages.{judgePivot, pivotsTo, Entered, Stage, allRows, rowsTo, topRows, RowsFinished, DiagonalFinished, TriangleFinished, BelowFinished, ColumnsFinished}
 use Rattle.blocked_factor.proofs.BlockRows.{row-next, row-mono, row-lt, row-apart}
@@ -301,7 +302,14 @@ below-next {w} {s0} {e} {from} {r} {m} {m₁} {m₂} g low before rows =
 
 -- ---- panels
 
--- what stands before a part that is lent stays
+-- a memory whose part from `start` on is lent and comes back
+pub rest-replaced :
+    (start : ℕ) (m part : List Float) → start ≤ length m → length part ≡ length (take (length m - start) (drop start m)) →
+    Replaced nan start (length m - start) m part (take start m ++ (part ++ drop (length m - start) (drop start m)))
+rest-replaced start m part inside kept =
+    part-replaced nan start (length m - start) m part (omega arith) (kept ∙ length-part nan start (length m - start) m (omega arith))
+
+-- what stands before that part stays
 pub lent-same : {start count size : ℕ} {m m′ : List Float} {value : ℕ → Float} → start ≡ size → Filled nan start count value m m′ → SameTo size m m′
 lent-same e lent = record { at = λ p low. lent .before p (omega arith) }
 

@@ -1,15 +1,13 @@
 -- `blocked_factor::factor_panel` meets its contract. Assumes nothing.
-use Prim.Native.Nat.{_+_, _-_, _≤_}
+use Prim.Native.Nat.{_+_, _-_}
 use native.Mathlib.Omega.{arith}
-use mathlib.Core.Path.{_∙_}
 use mathlib.Core.List.{_++_}
 use borrow.Author.Needs.{needs}
 use lib.ListN.{length, take, drop}
 use lib.Ieee.{nan}
 use Rattle.kernels.specs.Kernels.{Replaced}
-use Rattle.kernels.proofs.Parts.{length-part, part-replaced}
 use Rattle.blocked_factor.proofs.BlockRows.{row-mono}
-use Rattle.blocked_factor.proofs.Finishing.{lent-same, panel-finished}
+use Rattle.blocked_factor.proofs.Finishing.{rest-replaced, lent-same, panel-finished}
 use Rattle.blocked_factor.proofs.factor_panel.Statement.{statement}
 use Rattle.blocked_factor.proofs.factor_panel.Tie as tie
 
@@ -40,11 +38,8 @@ lent :
     Replaced nan size (length work - size) work spare (take size work ++ (spare ++ drop (length work - size) (drop size work)))
 lent c =
     let start = c .before .before .before .before .before .before in
-    let work = start .args .work .now in
-    let size = c .before .before .before .place-in-block .result in
-    let room : size + (length work - size) ≤ length work = omega (arith, c .before .before .before .place-in-block .ensures, start .pre .1 .1) in
-    part-replaced nan size (length work - size) work (c .update-panel .last .1 .0) room
-    (c .update-panel .kept .1 .0 ∙ length-part nan size (length work - size) work room)
+    let place = c .before .before .before .place-in-block in
+    rest-replaced (place .result) (start .args .work .now) (c .update-panel .last .1 .0) (omega (arith, place .ensures, start .pre .1 .1)) (c .update-panel .kept .1 .0)
 
 add-finish-triangle : tie.Need-add-finish-triangle
 add-finish-triangle c = search needs

@@ -1,7 +1,7 @@
 -- `blocked_factor::factor_part` meets its contract. Assumes nothing.
 use Prim.Native.Nat.{_+_, _-_, _≤_}
 use native.Mathlib.Omega.{arith}
-use mathlib.Core.Path.{_≡_, _∙_}
+use mathlib.Core.Path.{_≡_}
 use mathlib.Core.List.{_++_}
 use borrow.Author.Needs.{needs}
 use lib.ListN.{length, take, drop}
@@ -9,10 +9,10 @@ use lib.Ieee.{nan}
 use Rattle.shape.specs.Places.{blockStart, width}
 use Rattle.shape.proofs.Blocks.{width-le}
 use Rattle.kernels.specs.Kernels.{Replaced}
-use Rattle.kernels.proofs.Parts.{length-part, part-replaced}
+use Rattle.kernels.proofs.Parts.{length-part}
 use Rattle.blocked_factor.specs.BlockColumns.{rowStart}
 use Rattle.blocked_factor.proofs.EarlierBlocks.{block-room}
-use Rattle.blocked_factor.proofs.Finishing.{lent-same, same-join}
+use Rattle.blocked_factor.proofs.Finishing.{rest-replaced, lent-same, same-join}
 use Rattle.blocked_factor.proofs.BlockParts.{size-le, spare-two, block-factored}
 use Rattle.blocked_factor.proofs.factor_part.Statement.{statement}
 use Rattle.blocked_factor.proofs.factor_part.Tie as tie
@@ -34,7 +34,7 @@ front :
     (c : tie.After-place-in-block) →
     let a = c .before .before .before .before .before .before .args in
     let size = c .place-in-block .result in
-    (size ≡ rowStart (width (a .shape .order) (a .shape .block) (a .c)) (a .shape .order - a .c)) × (size + (length (a .work .now) - size) ≤ length (a .work .now))
+    (size ≡ rowStart (width (a .shape .order) (a .shape .block) (a .c)) (a .shape .order - a .c)) × (size ≤ length (a .work .now))
 front c =
     let pre = c .before .before .before .before .before .before .pre in
     let size = rw (c .before .before .block-width .ensures) at (c .place-in-block .ensures) in
@@ -59,7 +59,7 @@ update-by-runs-requires c κs =
     let work = start .args .work .now in
     let size = placed .place-in-block .result in (
       start .pre .0,
-      λ later. omega (arith, length-part nan size (length work - size) work (front placed .1), front placed .0, start .pre .1, spare-two (start .pre .0) later),
+      λ later. omega (arith, length-part nan size (length work - size) work (omega (arith, front placed .1)), front placed .0, start .pre .1, spare-two (start .pre .0) later),
     )
 
 -- and stay
@@ -71,10 +71,8 @@ lent :
     Replaced nan size (length work - size) work spare (take size work ++ (spare ++ drop (length work - size) (drop size work)))
 lent c =
     let placed = c .before .before .before in
-    let work = placed .before .before .before .before .before .before .args .work .now in
-    let size = placed .place-in-block .result in
-    part-replaced nan size (length work - size) work (c .update-by-runs .last .1 .0) (front placed .1)
-    (c .update-by-runs .kept .1 .0 ∙ length-part nan size (length work - size) work (front placed .1))
+    rest-replaced (placed .place-in-block .result) (placed .before .before .before .before .before .before .args .work .now) (c .update-by-runs .last .1 .0) (front placed .1)
+    (c .update-by-runs .kept .1 .0)
 
 -- the block column lies in the matrix memory
 room :
@@ -141,9 +139,7 @@ returns c =
     let factored = rw (at, placed .before .before .block-width .ensures) at (block .ensures) in
     let same = lent-same (front placed .0) (lent updated) in
     rw at (
-      block-factored (begin .pre .0) same (updated .update-by-runs .ensures) (factored .0)
-          (part-replaced nan start (length m - start) m (block .last .0) (omega arith)
-          (factored .0 .kept ∙ length-part nan start (length m - start) m (omega arith))),
+      block-factored (begin .pre .0) same (updated .update-by-runs .ensures) (factored .0) (rest-replaced start m (block .last .0) (omega arith) (factored .0 .kept)),
       same-join same (factored .1),
     )
 
