@@ -28,7 +28,7 @@
  *   16  a factor: a column is weak, its pivot greater than zero but not       the lowest refused column
  *       greater than 2^-40 of a(j, j) at entry; value: the pivot
  *
- * Of one column 10 comes before 11, and 11 before 16; of several columns the lowest refused one decides. The value is +0 except under 10, where it may be minus
+ * Of one column 10 comes before 16, and 16 before 11; of several columns the lowest refused one decides. The value is +0 except under 10, where it may be minus
  * infinity, and under 16. exact: a factor succeeds, and the square of each of its roots is the pivot exactly; so it is true of an accepted order 0. It is false
  * after every refusal, and from rearrangers and solvers, which take no root. After 1 to 9 all memory is as it was. On success and after 10 to 12 and 16 the needed
  * length of work memory is +0 and the rest as it was. */

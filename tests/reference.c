@@ -98,13 +98,16 @@ metsovary_result reference_factor(enum layout layout, metsovary_shape shape, dou
             r = answer(10, j, pivot);
             break;
         }
+        if (pivot <= entered * 0x1p-40) {
+            r = answer(16, j, pivot);
+            break;
+        }
         column[j] = sqrt(pivot);
         exact = exact && square_is(to_bits(column[j]), to_bits(pivot));
         for (size_t i = j + 1; i < n; i++) {
             column[i] = column[i] / column[j];
             if (!isfinite(column[i])) r = answer(11, j, 0.0);
         }
-        if (r.code == 0 && pivot <= entered * 0x1p-40) r = answer(16, j, pivot);
         if (r.code) break;
     }
     size_t finished = r.code == 0 ? n : layout == PACKED ? j : shape.block * (j / shape.block);

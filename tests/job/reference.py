@@ -69,13 +69,13 @@ def solve(n, m, matrix, rhs):
         pivot = a[place(j, j)]
         if not pivot > 0:
             return 10, j, None, None
+        if pivot <= entered * 2.0**-40:
+            return 16, j, None, None
         a[place(j, j)] = d = math.sqrt(pivot)
         for i in range(j + 1, n):
             a[place(i, j)] /= d
         if not all(math.isfinite(a[place(i, j)]) for i in range(j + 1, n)):
             return 11, j, None, None
-        if pivot <= entered * 2.0**-40:
-            return 16, j, None, None
     x = []
     for q in range(m):
         y = rhs[q * n:(q + 1) * n]

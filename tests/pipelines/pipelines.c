@@ -244,7 +244,7 @@ static void weak_column(size_t n, size_t b, size_t column) {
     memory_free(l);
 }
 
-/* A weak column p, and 10 or 11 in column q: the lower of the two decides, and in one column 10 and 11 do. */
+/* A weak column p, whose pivot is 2^-52, and 10 or 11 in column q: the lower of the two decides, and in one column 10 before 16 and 16 before 11. */
 static void weak_and_refused(size_t n, size_t b, size_t p, uint64_t code, size_t q) {
     metsovary_shape shape = {n, b};
     memory a = memory_new(triangle(n));
@@ -255,9 +255,10 @@ static void weak_and_refused(size_t n, size_t b, size_t p, uint64_t code, size_t
     if (code == 11 && p != q) a.values[place(PACKED, shape, q, q)] = ldexp(1, -1000);
     if (code == 11) a.values[place(PACKED, shape, n - 1, q)] = ldexp(1, p == q ? 1000 : 600);
     metsovary_result r = both(shape, 0, a, memory_new(0), true);
-    bool weak = p < q;
-    expect(r.code == (weak ? 16 : code) && r.place == (weak ? p : q), "n %zu b %zu: 16 at %zu and %llu at %zu: %llu %llu", n, b, p, (unsigned long long)code, q,
-        (unsigned long long)r.code, (unsigned long long)r.place);
+    bool weak = p < q || (p == q && code == 11);
+    double value = weak ? 0x1p-52 : code == 10 ? -3.0 - (p == q) : 0.0;
+    expect(r.code == (weak ? 16 : code) && r.place == (weak ? p : q) && to_bits(r.value) == to_bits(value), "n %zu b %zu: 16 at %zu and %llu at %zu: %llu %llu %016llx", n,
+        b, p, (unsigned long long)code, q, (unsigned long long)r.code, (unsigned long long)r.place, (unsigned long long)to_bits(r.value));
 }
 
 static void blocked_refusals(size_t n, size_t b) {

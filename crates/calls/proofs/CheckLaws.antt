@@ -2,7 +2,7 @@
 use Prim.Native.Nat.{ℕ, zero, suc, _*_, _≤_, _<_}
 use native.Mathlib.Omega.{arith}
 use mathlib.Core.Path.{_≡_, refl, sym, ap, _∙_}
-use mathlib.Core.Bool.{Bool, true, false, not, _&&_, _||_}
+use mathlib.Core.Bool.{Bool, true, false, cond, not, _&&_, _||_}
 use mathlib.Core.List.{List, [], _∷_, _++_}
 use lib.Dec.{T, ltb, eqb, nltb→le, eqb→eq}
 use lib.ListN.{length, getD}
@@ -16,7 +16,7 @@ use Rattle.calls.specs.declared.Call.{Call}
 use Rattle.calls.specs.declared.Call.the-variants.{Rearranger, Factor, Solver}
 use Rattle.calls.specs.Sequences.{all}
 use Rattle.calls.specs.Triangles.{placeOf}
-use Rattle.calls.specs.Refusals.{success, accepted, refusal, refuseIf, firstRefusal, byBlocks, neededWork, rule1, rule2, rule3, rule4, rule5, rule6, rule7, rule8, finiteRule, rule9}
+use Rattle.calls.specs.Refusals.{success, accepted, refusal, refuseIf, firstRefusal, lowestRefusal, byBlocks, neededWork, rule1, rule2, rule3, rule4, rule5, rule6, rule7, rule8, finiteRule, rule9}
 use Rattle.calls.specs.Calls.{DoneAs, resultOf, rearrangerChecks, factorChecks, solverChecks, factorize}
 use Rattle.calls.proofs.Sequences.{all-of}
 use Rattle.calls.proofs.Refusals.{not-not, refuse-not, not-refused, first-accepted, lowest-accepted}
@@ -158,6 +158,49 @@ module _ (layout : Layout) (n b : ℕ) (matrix : List Float) (wl : ℕ) (h : T (
   factor-accepted =
       let s = sizes-accepted (Factor layout) n b (length matrix) wl (rule7 matrix ∷ []) h in
       record { sizes = s .0; matrixFinite = finite-accepted 6 matrix (first-accepted (rule7 matrix) [] (s .1) .0) }
+
+-- ---- the codes of a factor's checks are below those of its columns
+
+record CheckCode (v : Verdict) : Type 0 where
+  below : v .code < 10
+
+refuse-code : (c : Bool) (code place : ℕ) → code < 10 → CheckCode (refuseIf c (refusal code place zero64))
+refuse-code true code place h = record { below = h }
+refuse-code false code place h = record { below = omega arith }
+
+first-code : (r : Verdict) (rs : List Verdict) → CheckCode r → CheckCode (firstRefusal rs) → CheckCode (firstRefusal (r ∷ rs))
+unfolding firstRefusal
+first-code r rs h t = go (accepted r)
+  where
+    go : (b : Bool) → CheckCode (cond b (firstRefusal rs) r)
+    go true = t
+    go false = h
+
+none-code : CheckCode (firstRefusal [])
+unfolding firstRefusal
+none-code = record { below = omega arith }
+
+lowest-code : (judge : ℕ → Verdict) → ((k : ℕ) → CheckCode (judge k)) → (n : ℕ) → CheckCode (lowestRefusal judge n)
+unfolding lowestRefusal
+lowest-code judge each zero = record { below = omega arith }
+lowest-code judge each (suc k) = go (accepted (lowestRefusal judge k)) (lowest-code judge each k)
+  where
+    go : (b : Bool) → CheckCode (lowestRefusal judge k) → CheckCode (cond b (judge k) (lowestRefusal judge k))
+    go true h = each k
+    go false h = h
+
+module _ (layout : Layout) (n b : ℕ) (matrix : List Float) (wl : ℕ) where
+  each-code : CheckCode (factorChecks layout n b matrix wl)
+  unfolding factorChecks rule1 rule2 rule3 rule4 finiteRule
+  each-code =
+      first-code _ _ (refuse-code (ltb maxOrder n) 1 0 (omega arith))
+      (first-code _ _ (refuse-code (byBlocks (Factor layout) && (eqb b 0 || ltb maxBlock b)) 2 0 (omega arith))
+      (first-code _ _ (refuse-code (not (eqb (length matrix) (triangle n))) 3 0 (omega arith))
+      (first-code _ _ (refuse-code (ltb wl (neededWork (Factor layout) n b)) 4 0 (omega arith))
+      (first-code _ _ (lowest-code (finiteAt 7 matrix) (λ p. refuse-code (not (finite (getD matrix p nan))) 7 p (omega arith)) (length matrix)) none-code))))
+
+  pub factor-checks-code : factorChecks layout n b matrix wl .code < 10
+  factor-checks-code = each-code .below
 
 -- a factor after its checks
 module _ (layout : Layout) (n b : ℕ) (m w : List Float) (checks : Verdict) (e : checks ≡ factorChecks layout n b m (length w)) where

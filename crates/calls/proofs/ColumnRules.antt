@@ -1,4 +1,4 @@
--- Laws of a column's rules, 10, 11 and 16: what an accepted column says of its pivot and its entries below, and what a refused one says. All go by one
+-- Laws of a column's rules, 10, 16 and 11: what an accepted column says of its pivot and its entries below, and what a refused one says. All go by one
 -- table, `outcome`: a rule that is added, or another order, changes that, and no law of another file looks into the rules. Assumes nothing.
 use Prim.Native.Nat.{ℕ}
 use native.Mathlib.Omega.{arith}
@@ -9,6 +9,7 @@ use mathlib.Core.List.{[], _∷_}
 use lib.Dec.{T}
 use lib.Ieee.{Float}
 use lib.Ieee.Bits.{is-true}
+use lib.Ieee.Fits.{and-l}
 use Rattle.binary64.specs.Kinds.{positive, zero64}
 use Rattle.binary64.specs.Root.{root, exact}
 use Rattle.binary64.specs.Judged.{judged}
@@ -32,88 +33,95 @@ module _ (x : Float) where
   unfolding judged
   judged-passed t = rw (is-true (positive x) t) refl
 
--- ---- a column's rules, by whether its pivot is greater than zero, the entries below are finite, and it is weak
+-- a weak pivot is greater than zero
+pub weak-positive : (entered x : Float) → T (weak entered x) → T (positive x)
+unfolding weak
+weak-positive entered x t = and-l (positive x) _ t
+
+-- ---- a column's rules, by whether its pivot is greater than zero, it is weak, and the entries below are finite
 
 module _ (j : ℕ) (x : Float) where
   outcome : Bool → Bool → Bool → Verdict
-  outcome false f w = refusal 10 j x
-  outcome true false w = refusal 11 j zero64
-  outcome true true true = refusal 16 j x
-  outcome true true false = success
+  outcome false w f = refusal 10 j x
+  outcome true true f = refusal 16 j x
+  outcome true false false = refusal 11 j zero64
+  outcome true false true = success
 
-  rules-by : (entered : Float) (p f w : Bool) → positive x ≡ p → weak entered x ≡ w → columnRules j entered x f ≡ outcome p f w
+  rules-by : (entered : Float) (p w f : Bool) → positive x ≡ p → weak entered x ≡ w → columnRules j entered x f ≡ outcome p w f
   unfolding columnRules firstRefusal rule11 rule16 judged outcome
-  rules-by entered false f w ep ew = rw ep refl
-  rules-by entered true false w ep ew = rw ep refl
-  rules-by entered true true true ep ew = rw (ep, ew) refl
-  rules-by entered true true false ep ew = rw (ep, ew) refl
+  rules-by entered false w f ep ew = rw ep refl
+  rules-by entered true true f ep ew = rw (ep, ew) refl
+  rules-by entered true false false ep ew = rw (ep, ew) refl
+  rules-by entered true false true ep ew = rw (ep, ew) refl
 
-  place : (p f w : Bool) → accepted (outcome p f w) ≡ false → outcome p f w .place ≡ j
+  place : (p w f : Bool) → accepted (outcome p w f) ≡ false → outcome p w f .place ≡ j
   unfolding outcome
-  place false f w e = refl
-  place true false w e = refl
-  place true true true e = refl
-  place true true false e = absurd (subst T e tt)
+  place false w f e = refl
+  place true true f e = refl
+  place true false false e = refl
+  place true false true e = absurd (subst T e tt)
 
-  value : (p w : Bool) → accepted (outcome p true w) ≡ false → outcome p true w .value ≡ x
+  value : (p w : Bool) → accepted (outcome p w true) ≡ false → outcome p w true .value ≡ x
   unfolding outcome
   value false w e = refl
   value true true e = refl
   value true false e = absurd (subst T e tt)
 
-  below : (p w : Bool) → T (accepted (outcome p true w)) → outcome p false w ≡ rule11 j false
+  below : (p w : Bool) → T (accepted (outcome p w true)) → outcome p w false ≡ rule11 j false
   unfolding outcome rule11
   below false w t = absurd t
   below true true t = absurd t
   below true false t = refl
 
-  not-finite : (p w : Bool) → accepted (outcome p false w) ≡ false
+  not-finite : (p w : Bool) → accepted (outcome p w false) ≡ false
   unfolding outcome
   not-finite false w = refl
-  not-finite true w = refl
+  not-finite true true = refl
+  not-finite true false = refl
 
-  passed : (p f w : Bool) → T (accepted (outcome p f w)) → T p × T f
+  passed : (p w f : Bool) → T (accepted (outcome p w f)) → T p × T f
   unfolding outcome
-  passed false f w t = absurd t
-  passed true false w t = absurd t
-  passed true true w t = (tt, tt)
+  passed false w f t = absurd t
+  passed true true f t = absurd t
+  passed true false false t = absurd t
+  passed true false true t = (tt, tt)
 
-  code-10 : (p f w : Bool) → outcome p f w .code ≡ 10 → (outcome p f w .value ≡ x) × T (not p)
+  code-10 : (p w f : Bool) → outcome p w f .code ≡ 10 → (outcome p w f .value ≡ x) × T (not p)
   unfolding outcome
-  code-10 false f w q = (refl, tt)
-  code-10 true false w q = let z : _≡_ {A = ℕ} 11 10 = q in absurd (omega arith)
-  code-10 true true true q = let z : _≡_ {A = ℕ} 16 10 = q in absurd (omega arith)
-  code-10 true true false q = let z : _≡_ {A = ℕ} 0 10 = q in absurd (omega arith)
+  code-10 false w f q = (refl, tt)
+  code-10 true true f q = let z : _≡_ {A = ℕ} 16 10 = q in absurd (omega arith)
+  code-10 true false false q = let z : _≡_ {A = ℕ} 11 10 = q in absurd (omega arith)
+  code-10 true false true q = let z : _≡_ {A = ℕ} 0 10 = q in absurd (omega arith)
 
-  code-16 : (p f w : Bool) → outcome p f w .code ≡ 16 → (outcome p f w .value ≡ x) × T w
+  code-16 : (p w f : Bool) → outcome p w f .code ≡ 16 → (outcome p w f .value ≡ x) × T w
   unfolding outcome
-  code-16 false f w q = let z : _≡_ {A = ℕ} 10 16 = q in absurd (omega arith)
-  code-16 true false w q = let z : _≡_ {A = ℕ} 11 16 = q in absurd (omega arith)
-  code-16 true true true q = (refl, tt)
-  code-16 true true false q = let z : _≡_ {A = ℕ} 0 16 = q in absurd (omega arith)
+  code-16 false w f q = let z : _≡_ {A = ℕ} 10 16 = q in absurd (omega arith)
+  code-16 true true f q = (refl, tt)
+  code-16 true false false q = let z : _≡_ {A = ℕ} 11 16 = q in absurd (omega arith)
+  code-16 true false true q = let z : _≡_ {A = ℕ} 0 16 = q in absurd (omega arith)
 
-  without-16 : (p f w : Bool) → positive x ≡ p → outcome p f w .code ≢ 16 → outcome p f w ≡ firstRefusal (rule10 j (judged x) ∷ rule11 j f ∷ [])
+  without-16 : (p w f : Bool) → positive x ≡ p → outcome p w f .code ≢ 16 → outcome p w f ≡ firstRefusal (rule10 j (judged x) ∷ rule11 j f ∷ [])
   unfolding outcome firstRefusal rule11 judged
-  without-16 false f w ep other = rw ep refl
-  without-16 true false w ep other = rw ep refl
-  without-16 true true true ep other = absurd (other refl)
-  without-16 true true false ep other = rw ep refl
+  without-16 false w f ep other = rw ep refl
+  without-16 true true f ep other = absurd (other refl)
+  without-16 true false false ep other = rw ep refl
+  without-16 true false true ep other = rw ep refl
 
 -- ---- a column with a(j,j) at entry and its pivot
 
 module _ (j : ℕ) (entered x : Float) where
   abbrev outcomeOf : Bool → Verdict
-  outcomeOf f = outcome j x (positive x) f (weak entered x)
+  outcomeOf f = outcome j x (positive x) (weak entered x) f
 
   rules-are : (f : Bool) → columnRules j entered x f ≡ outcomeOf f
-  rules-are f = rules-by j x entered (positive x) f (weak entered x) refl refl
+  rules-are f = rules-by j x entered (positive x) (weak entered x) f refl refl
 
   pub rules-success : (f : Bool) → T (accepted (columnRules j entered x f)) → columnRules j entered x f ≡ success
   unfolding columnRules
   rules-success f t = first-success _ t
 
   pub rules-place : (f : Bool) → accepted (columnRules j entered x f) ≡ false → columnRules j entered x f .place ≡ j
-  rules-place f e = rw (rules-are f) (place j x (positive x) f (weak entered x) (rw (rules-are f) at e))
+  rules-place f e = rw (rules-are f) (place j x (positive x) (weak entered x) f (rw (rules-are f) at e))
 
   -- what is refused with finite entries below has the pivot as its value
   pub rules-value : accepted (columnRules j entered x true) ≡ false → columnRules j entered x true .value ≡ x
@@ -133,17 +141,17 @@ module _ (j : ℕ) (entered x : Float) where
   rules-refused v f e = rw e refl
 
   pub rules-accepted : (f : Bool) → T (accepted (columnRules j entered x f)) → T (positive x) × T f
-  rules-accepted f t = passed j x (positive x) f (weak entered x) (rw (rules-are f) at t)
+  rules-accepted f t = passed j x (positive x) (weak entered x) f (rw (rules-are f) at t)
 
   -- code 10 gives the pivot, which is not greater than zero
   pub rules-10 : (f : Bool) → columnRules j entered x f .code ≡ 10 → (columnRules j entered x f .value ≡ x) × T (not (positive x))
-  rules-10 f e = rw (rules-are f) (code-10 j x (positive x) f (weak entered x) (rw (rules-are f) at e))
+  rules-10 f e = rw (rules-are f) (code-10 j x (positive x) (weak entered x) f (rw (rules-are f) at e))
 
   -- code 16 gives the pivot of a weak column
   pub rules-16 : (f : Bool) → columnRules j entered x f .code ≡ 16 → (columnRules j entered x f .value ≡ x) × T (weak entered x)
-  rules-16 f e = rw (rules-are f) (code-16 j x (positive x) f (weak entered x) (rw (rules-are f) at e))
+  rules-16 f e = rw (rules-are f) (code-16 j x (positive x) (weak entered x) f (rw (rules-are f) at e))
 
   -- where 16 does not decide, the others do
   pub rules-without-16 :
       (f : Bool) → columnRules j entered x f .code ≢ 16 → columnRules j entered x f ≡ firstRefusal (rule10 j (judged x) ∷ rule11 j f ∷ [])
-  rules-without-16 f other = rules-are f ∙ without-16 j x (positive x) f (weak entered x) refl (rw (rules-are f) at other)
+  rules-without-16 f other = rules-are f ∙ without-16 j x (positive x) (weak entered x) f refl (rw (rules-are f) at other)

@@ -231,10 +231,15 @@ hasRoot v r = eqb (toBits binary64 (root (ofBits binary64 v))) r
 isWeak : ℕ → ℕ → Bool
 isWeak entered p = weak (ofBits binary64 entered) (ofBits binary64 p)
 
+-- column 3, with a(j,j) at entry, a pivot and whether the entries below are finite
+judges : ℕ → ℕ → Bool → Answer → Bool
+unfolding decides
+judges entered p finiteBelow answer = decides (columnRules 3 (ofBits binary64 entered) (ofBits binary64 p) finiteBelow) answer
+
 -- ---- the table
 
 pub rows : List Bool
-unfolding moves factors solves moveRefused factorRefused solveRefused ends job at hasRoot isWeak gives decides memory used
+unfolding moves factors solves moveRefused factorRefused solveRefused ends job at hasRoot isWeak judges gives decides memory used
 rows =
     -- n 0, empty memory: success.
     gives (rearrange Packed Blocked 0 1 [] [] .result) success
@@ -339,9 +344,6 @@ rows =
     (16, 1, twoToMinus52, false) (16, 1, twoToMinus52, false) (two ∷ one ∷ onePlus ∷ []) (four ∷ six ∷ [])
     ∷ ends (blockedPipeline 2 2 1 (memory (four ∷ two ∷ onePlus ∷ [])) (memory (four ∷ six ∷ [])) (used 4)) 4
     (16, 1, twoToMinus52, false) (16, 1, twoToMinus52, false) (four ∷ two ∷ onePlus ∷ []) (four ∷ six ∷ [])
-    -- A weak column that overflows is 11.
-    ∷ factors Packed 3 2 3 (one ∷ one ∷ 0 ∷ onePlus ∷ twoTo1000 ∷ one ∷ []) (11, 1, 0, false) (one ∷ one ∷ 0 ∷ onePlus ∷ twoTo1000 ∷ one ∷ [])
-    ∷ factors Blocked 3 2 6 (one ∷ one ∷ onePlus ∷ 0 ∷ twoTo1000 ∷ one ∷ []) (11, 1, 0, false) (one ∷ one ∷ onePlus ∷ 0 ∷ twoTo1000 ∷ one ∷ [])
     -- One before a column refused by 10 decides, and before one that overflows; one after either does not.
     ∷ factors Packed 3 2 3 (one ∷ one ∷ 0 ∷ onePlus ∷ 0 ∷ minusOne ∷ []) (16, 1, twoToMinus52, false) (one ∷ one ∷ 0 ∷ onePlus ∷ 0 ∷ minusOne ∷ [])
     ∷ factors Blocked 3 3 9 (one ∷ one ∷ onePlus ∷ 0 ∷ 0 ∷ minusOne ∷ []) (16, 1, twoToMinus52, false) (one ∷ one ∷ onePlus ∷ 0 ∷ 0 ∷ minusOne ∷ [])
@@ -351,6 +353,19 @@ rows =
     ∷ factors Blocked 3 3 9 (minusOne ∷ 0 ∷ one ∷ 0 ∷ one ∷ onePlus ∷ []) (10, 0, minusOne, false) (minusOne ∷ 0 ∷ one ∷ 0 ∷ one ∷ onePlus ∷ [])
     ∷ factors Blocked 4 4 16 (twoToMinus1000 ∷ 0 ∷ one ∷ 0 ∷ one ∷ onePlus ∷ twoTo600 ∷ 0 ∷ 0 ∷ one ∷ []) (11, 0, 0, false)
     (twoToMinus1000 ∷ 0 ∷ one ∷ 0 ∷ one ∷ onePlus ∷ twoTo600 ∷ 0 ∷ 0 ∷ one ∷ [])
+    -- ---- document 02, (g): a weak column that overflows is 16; where just one of the rules holds, it decides; 10 comes before both.
+    ∷ judges one twoToMinus50 false (16, 3, twoToMinus50, false)
+    ∷ judges one twoToMinus50 true (16, 3, twoToMinus50, false)
+    ∷ judges one two false (11, 3, 0, false)
+    ∷ judges one two true success
+    ∷ judges one minusOne false (10, 3, minusOne, false)
+    ∷ factors Packed 3 2 3 (one ∷ one ∷ 0 ∷ onePlus ∷ twoTo1000 ∷ one ∷ []) (16, 1, twoToMinus52, false) (one ∷ one ∷ 0 ∷ onePlus ∷ twoTo1000 ∷ one ∷ [])
+    ∷ factors Blocked 3 2 6 (one ∷ one ∷ onePlus ∷ 0 ∷ twoTo1000 ∷ one ∷ []) (16, 1, twoToMinus52, false) (one ∷ one ∷ onePlus ∷ 0 ∷ twoTo1000 ∷ one ∷ [])
+    -- Column 0 overflows, column 1 is weak and overflows: 11, place 0.
+    ∷ factors Packed 3 2 3 (twoToMinus1000 ∷ twoToMinus500 ∷ twoTo600 ∷ onePlus ∷ 0 ∷ one ∷ []) (11, 0, 0, false)
+    (twoToMinus1000 ∷ twoToMinus500 ∷ twoTo600 ∷ onePlus ∷ 0 ∷ one ∷ [])
+    ∷ factors Blocked 3 2 6 (twoToMinus1000 ∷ twoToMinus500 ∷ onePlus ∷ twoTo600 ∷ 0 ∷ one ∷ []) (11, 0, 0, false)
+    (twoToMinus1000 ∷ twoToMinus500 ∷ onePlus ∷ twoTo600 ∷ 0 ∷ one ∷ [])
     -- ---- beyond document 01's list
     -- What stays after 10: the plain factor keeps its finished columns, the blocked one its finished block columns.
     ∷ factors Packed 2 1 2 (four ∷ two ∷ one ∷ []) (10, 1, 0, false) (two ∷ one ∷ one ∷ [])

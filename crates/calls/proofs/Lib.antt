@@ -12,5 +12,7 @@ pub mod Agreement
 pub mod Entries
 pub mod Pivots
 pub mod Exactness
+pub mod FactorsBy
 pub mod WeakColumns
+pub mod WeakFirst
 pub mod Examples

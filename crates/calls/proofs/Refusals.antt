@@ -76,6 +76,26 @@ lowest-accepted judge (suc n) t k h =
     both : T (accepted (lowestRefusal judge n)) × T (accepted (judge n))
     both = go (accepted (lowestRefusal judge n)) refl t
 
+-- a relation of verdicts that are accepted alike
+pub lowest-related :
+    (R : Verdict → Verdict → Type 0) → ((v w : Verdict) → R v w → accepted w ≡ accepted v) → R success success → (judge judge′ : ℕ → Verdict) →
+    ((k : ℕ) → R (judge k) (judge′ k)) → (n : ℕ) → R (lowestRefusal judge n) (lowestRefusal judge′ n)
+unfolding lowestRefusal
+lowest-related R alike start judge judge′ each zero = start
+lowest-related R alike start judge judge′ each (suc k) =
+    let before : R last last′ = lowest-related R alike start judge judge′ each k in
+    rw (alike last last′ before) (go (accepted last) before)
+  where
+    last : Verdict
+    last = lowestRefusal judge k
+
+    last′ : Verdict
+    last′ = lowestRefusal judge′ k
+
+    go : (b : Bool) → R last last′ → R (cond b (judge k) last) (cond b (judge′ k) last′)
+    go true r = each k
+    go false r = r
+
 -- what is refused is refused at its lowest place, and all before it pass
 pub record Lowest (judge : ℕ → Verdict) (n : ℕ) (r : Verdict) : Type 0 where
   pub at : ℕ

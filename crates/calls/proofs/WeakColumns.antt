@@ -9,25 +9,17 @@ use mathlib.Core.List.{List, [], _∷_}
 use lib.Dec.{T, eqb}
 use lib.ListN.{length}
 use lib.Ieee.{Float}
-use lib.Ieee.Fits.{and-l}
 use Rattle.binary64.specs.Kinds.{finite, positive}
 use Rattle.binary64.specs.Judged.{judged}
 use Rattle.calls.specs.declared.Verdict.{Verdict}
 use Rattle.calls.specs.declared.Layout.{Layout}
-use Rattle.calls.specs.declared.Call.the-variants.{Factor}
-use Rattle.calls.specs.Sequences.{all}
-use Rattle.calls.specs.Triangles.{Triangle, entry, height, placeOf, load, store}
-use Rattle.calls.specs.Arithmetic.{pivot, below, cholesky}
-use Rattle.calls.specs.Refusals.{accepted, neededWork, firstRefusal, lowestRefusal, rule10, rule11, weak, columnRules, columnVerdict}
-use Rattle.calls.specs.Judgements.{judgement}
-use Rattle.calls.specs.Calls.{Done, resultOf, judgedResult, clear, factorChecks, judgeColumn, columnsVerdict, columnsExact, finished, factored, factorize}
+use Rattle.calls.specs.Triangles.{Triangle, entry, height, placeOf, load}
+use Rattle.calls.specs.Refusals.{accepted, firstRefusal, lowestRefusal, rule10, rule11, weak, columnRules, columnVerdict}
+use Rattle.calls.specs.Calls.{Done, resultOf, factorChecks, judgeColumn, columnsVerdict, factored, factorize}
 use Rattle.calls.proofs.Refusals.{Lowest, lowest-refused}
-use Rattle.calls.proofs.ColumnRules.{rules-place, rules-16, rules-without-16}
-use Rattle.calls.proofs.Columns.{columns, FiniteMatrix, pivot-finite, columns-finite}
-
--- column j of a is weak, the columns of its factor before it being known
-abbrev pub weakColumn : ℕ → Triangle → ℕ → Bool
-weakColumn n a j = weak (entry a j j) (pivot a (cholesky (height n) a j) j)
+use Rattle.calls.proofs.ColumnRules.{weak-positive, rules-place, rules-16, rules-without-16}
+use Rattle.calls.proofs.Columns.{FiniteMatrix, pivot-finite, columns-finite}
+use Rattle.calls.proofs.FactorsBy.{pivotOf, finiteBelow, weakColumn, doneWith, Rules, columnBy, verdictBy, factorizeBy}
 
 -- ---- code 16
 
@@ -36,7 +28,7 @@ pub record NamesWeak (n : ℕ) (a : Triangle) (v : Verdict) : Type 0 where
   pub at : ℕ
   pub inside : at < n
   pub place : v .place ≡ at
-  pub value : v .value ≡ pivot a (cholesky (height n) a at) at
+  pub value : v .value ≡ pivotOf n a at
   pub isWeak : T (weakColumn n a at)
   pub before : (k : ℕ) → k < at → T (accepted (judgeColumn n a k))
 
@@ -46,8 +38,8 @@ module _ (n : ℕ) (a : Triangle) (e : columnsVerdict n a .code ≡ 16) where
   verdict-16 =
       let found : Lowest (judgeColumn n a) n (columnsVerdict n a) = lowest-refused (judgeColumn n a) n (subst (λ c. T (not (eqb c 0))) (sym e) tt) in
       let j : ℕ = found .at in
-      let p : Float = pivot a (cholesky (height n) a j) j in
-      let f : Bool = all finite (below (height n) a j (cholesky (height n) a j)) in
+      let p : Float = pivotOf n a j in
+      let f : Bool = finiteBelow n a j in
       let code : columnRules j (entry a j j) p f .code ≡ 16 = ap (λ (r : Verdict). r .code) (sym (found .there)) ∙ e in
       record {
         at = j;
@@ -59,41 +51,18 @@ module _ (n : ℕ) (a : Triangle) (e : columnsVerdict n a .code ≡ 16) where
       }
 
   pub value-16 : FiniteMatrix n a → T (finite (columnsVerdict n a .value)) × T (positive (columnsVerdict n a .value))
-  unfolding weak
   value-16 given =
       let j : ℕ = verdict-16 .at in
-      let p : Float = pivot a (cholesky (height n) a j) j in
-      let above : T (positive p) = and-l (positive p) _ (verdict-16 .isWeak) in
+      let p : Float = pivotOf n a j in
+      let above : T (positive p) = weak-positive (entry a j j) p (verdict-16 .isWeak) in
       let low : j < n = verdict-16 .inside in
       let under : T (finite p) = pivot-finite n a given j low (columns-finite n a given j (omega (arith, low)) (verdict-16 .before)) above in
       rw (verdict-16 .value) (under, above)
 
--- ---- the rules before it
+-- ---- the rules without it
 
-abbrev pub formerRules : ℕ → Float → Bool → Verdict
-formerRules j p finiteBelow = firstRefusal (rule10 j (judged p) ∷ rule11 j finiteBelow ∷ [])
-
-abbrev pub formerColumn : ℕ → Triangle → ℕ → Verdict
-formerColumn n a = λ j. formerRules j (pivot a (cholesky (height n) a j) j) (all finite (below (height n) a j (cholesky (height n) a j)))
-
-abbrev pub formerVerdict : ℕ → Triangle → Verdict
-formerVerdict n a = lowestRefusal (formerColumn n a) n
-
--- `factored` and `factorize` with these
-abbrev pub formerFactored : Layout → ℕ → ℕ → List Float → List Float → Done
-formerFactored layout n b matrix work =
-    let a = load (placeOf layout n b) (height n) n matrix in
-    let verdict = formerVerdict n a in
-    record {
-      result = judgedResult (judgement verdict (columnsExact n a));
-      matrix = store (placeOf layout n b) (cholesky (height n) a (finished layout n b verdict)) matrix;
-      work = clear (neededWork (Factor layout) n b) work;
-    }
-
-abbrev pub formerFactorize : Layout → ℕ → ℕ → List Float → List Float → Done
-formerFactorize layout n b matrix work =
-    let checks = factorChecks layout n b matrix (length work) in
-    cond (accepted checks) (formerFactored layout n b matrix work) (record { result = resultOf checks; matrix = matrix; work = work })
+abbrev pub without16 : Rules
+without16 j entered p finiteBelow = firstRefusal (rule10 j (judged p) ∷ rule11 j finiteBelow ∷ [])
 
 -- ---- where the answer is not 16
 
@@ -119,11 +88,10 @@ lowest-former judge former each (suc k) other = go (accepted last) refl other (l
         rw (← same, e) refl
 
 module _ (n : ℕ) (a : Triangle) where
-  verdict-former : columnsVerdict n a .code ≢ 16 → columnsVerdict n a ≡ formerVerdict n a
+  verdict-former : columnsVerdict n a .code ≢ 16 → columnsVerdict n a ≡ verdictBy without16 n a
   unfolding columnsVerdict columnVerdict
   verdict-former other =
-      lowest-former (judgeColumn n a) (formerColumn n a)
-      (λ j. rules-without-16 j (entry a j j) (pivot a (columns n a j) j) (all finite (below (height n) a j (columns n a j)))) n other
+      lowest-former (judgeColumn n a) (columnBy without16 n a) (λ j. rules-without-16 j (entry a j j) (pivotOf n a j) (finiteBelow n a j)) n other
 
   -- so it is where no column is weak
   not-16 : ((j : ℕ) → j < n → weakColumn n a j ≡ false) → columnsVerdict n a .code ≢ 16
@@ -140,22 +108,22 @@ module _ (layout : Layout) (n b : ℕ) (matrix work : List Float) where
   abbrev checks : Verdict
   checks = factorChecks layout n b matrix (length work)
 
-  same-call : (accepted checks ≡ true → columnsVerdict n a .code ≢ 16) → factorize layout n b matrix work ≡ formerFactorize layout n b matrix work
+  same-call : (accepted checks ≡ true → columnsVerdict n a .code ≢ 16) → factorize layout n b matrix work ≡ factorizeBy without16 layout n b matrix work
   unfolding factorize factored
   same-call other = go (accepted checks) refl
     where
       refused : Done
       refused = record { result = resultOf checks; matrix = matrix; work = work }
 
-      go : (c : Bool) → accepted checks ≡ c → cond c (factored layout n b matrix work) refused ≡ cond c (formerFactored layout n b matrix work) refused
+      go : (c : Bool) → accepted checks ≡ c → cond c (factored layout n b matrix work) refused ≡ cond c (doneWith layout n b matrix work (verdictBy without16 n a)) refused
       go true e = rw (verdict-former n a (other e)) refl
       go false e = refl
 
   -- a factor that does not answer 16
-  pub as-before : factorize layout n b matrix work .result .code ≢ 16 → factorize layout n b matrix work ≡ formerFactorize layout n b matrix work
+  pub as-before : factorize layout n b matrix work .result .code ≢ 16 → factorize layout n b matrix work ≡ factorizeBy without16 layout n b matrix work
   unfolding factorize factored
   as-before other = same-call (λ e h. other (rw e h))
 
   -- and one without a weak column
-  pub none-weak : ((j : ℕ) → j < n → weakColumn n a j ≡ false) → factorize layout n b matrix work ≡ formerFactorize layout n b matrix work
+  pub none-weak : ((j : ℕ) → j < n → weakColumn n a j ≡ false) → factorize layout n b matrix work ≡ factorizeBy without16 layout n b matrix work
   none-weak none = same-call (λ e. not-16 n a none)

@@ -118,7 +118,7 @@ rule16 j entered p = refuseIf (weak entered p) (refusal 16 j p)
 
 -- a column's rules, in checking order: on a(j,j) at entry, on its pivot, and on whether the entries below are finite
 unfoldable pub columnRules : ℕ → Float → Float → Bool → Verdict
-columnRules j entered p finiteBelow = firstRefusal (rule10 j (judged p) ∷ rule11 j finiteBelow ∷ rule16 j entered p ∷ [])
+columnRules j entered p finiteBelow = firstRefusal (rule10 j (judged p) ∷ rule16 j entered p ∷ rule11 j finiteBelow ∷ [])
 
 -- column j judged, the columns of l before it being known
 unfoldable pub columnVerdict : (ℕ → ℕ) → Triangle → Triangle → ℕ → Verdict

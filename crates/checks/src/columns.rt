@@ -41,8 +41,8 @@ pub fn refused_below(j: usize) -> Judgement
     refused(11, j, 0.0)
 }
 
-// Rules 10, 11 and 16 of column j, in their order: on its pivot as judged, on whether the entries below are finite, and on the pivot beside the diagonal value
-// at entry. An accepted column is as exact as its root.
+// Rules 10, 16 and 11 of column j, in their order: on its pivot as judged, on the pivot beside the diagonal value at entry, and on whether the entries below
+// are finite. An accepted column is as exact as its root.
 pub fn judge_column(j: usize, entered: f64, pivot: f64, judged: Pivot, finite: bool) -> Judgement
     requires { ⌜ judged ≡ Judged.judged pivot ⌝ }
     ensures { λ r. ⌜ r ≡ judgement (columnRules j entered pivot finite) (Judged.exactRoot judged) ⌝ }
@@ -50,11 +50,11 @@ pub fn judge_column(j: usize, entered: f64, pivot: f64, judged: Pivot, finite: b
     match judged {
         Pivot::Refused(value) => refused(10, j, value),
         Pivot::Root(_, exact) => {
-            if !finite {
-                return refused_below(j);
-            }
             if is_weak(entered, pivot) {
                 return refused(16, j, pivot);
+            }
+            if !finite {
+                return refused_below(j);
             }
             Judgement {
                 verdict: refusal(0, 0),

@@ -1,0 +1,184 @@
+-- What the order of rules 16 and 11 changed. A weak column with an entry below that is not finite was refused by 11, with value +0; it is refused by 16, with the
+-- pivot. Nothing else that a factor returned or left changed. Assumes nothing.
+use Prim.Native.Nat.{ℕ, _<_}
+use native.Mathlib.Omega.{arith}
+use mathlib.Core.Path.{_≡_, refl, sym, ap, _∙_, subst}
+use mathlib.Core.Logic.{_⊎_, inl, inr}
+use mathlib.Core.Bool.{Bool, true, false, cond, not, _&&_}
+use mathlib.Core.List.{List, [], _∷_}
+use lib.Dec.{T, eqb, eqb→eq}
+use lib.ListN.{length}
+use lib.Ieee.{Float}
+use lib.Ieee.Bits.{is-true}
+use lib.Ieee.Fits.{and-l}
+use Rattle.binary64.specs.Kinds.{positive, zero64}
+use Rattle.binary64.specs.Judged.{judged}
+use Rattle.calls.specs.declared.Verdict.{Verdict}
+use Rattle.calls.specs.declared.CallResult.{CallResult}
+use Rattle.calls.specs.declared.Layout.{Layout}
+use Rattle.calls.specs.declared.Layout.the-variants.{Packed, Blocked}
+use Rattle.calls.specs.Triangles.{Triangle, entry, height, placeOf, load, store}
+use Rattle.calls.specs.Arithmetic.{cholesky}
+use Rattle.calls.specs.Refusals.{accepted, refusal, firstRefusal, rule10, rule11, weak, rule16, columnRules, columnVerdict}
+use Rattle.calls.specs.Calls.{Done, resultOf, factorChecks, columnsVerdict, finished, factored, factorize}
+use Rattle.calls.proofs.Refusals.{lowest-related}
+use Rattle.calls.proofs.ColumnRules.{weak-positive, rules-place}
+use Rattle.calls.proofs.CheckLaws.{factor-checks-code}
+use Rattle.calls.proofs.FactorsBy.{pivotOf, finiteBelow, weakColumn, doneWith, Rules, columnBy, verdictBy, factorizeBy}
+
+-- ---- one column
+
+-- its rules in the former order and in the present one
+abbrev pub overflowFirst : Rules
+overflowFirst j entered p finiteBelow = firstRefusal (rule10 j (judged p) ∷ rule11 j finiteBelow ∷ rule16 j entered p ∷ [])
+
+abbrev pub weakFirst : Rules
+weakFirst j entered p finiteBelow = firstRefusal (rule10 j (judged p) ∷ rule16 j entered p ∷ rule11 j finiteBelow ∷ [])
+
+module _ (j : ℕ) (entered p : Float) where
+  -- a weak one with an entry below that is not finite
+  pub column-changed :
+      (f : Bool) → T (weak entered p && not f) → (overflowFirst j entered p f ≡ refusal 11 j zero64) × (weakFirst j entered p f ≡ refusal 16 j p)
+  unfolding firstRefusal rule11 rule16 judged
+  column-changed f t = go f (weak entered p) refl t
+    where
+      go : (g w : Bool) → weak entered p ≡ w → T (w && not g) → (overflowFirst j entered p g ≡ refusal 11 j zero64) × (weakFirst j entered p g ≡ refusal 16 j p)
+      go g false e t = absurd t
+      go true true e t = absurd t
+      go false true e t = rw (is-true (positive p) (weak-positive entered p (rw e tt)), e) (refl, refl)
+
+  -- and every other
+  pub column-same : (f : Bool) → weak entered p && not f ≡ false → weakFirst j entered p f ≡ overflowFirst j entered p f
+  unfolding firstRefusal rule11 rule16 judged
+  column-same f h = go (positive p) (weak entered p) f refl refl h
+    where
+      go : (above w g : Bool) → positive p ≡ above → weak entered p ≡ w → w && not g ≡ false → weakFirst j entered p g ≡ overflowFirst j entered p g
+      go false w g ep ew h = rw ep refl
+      go true true false ep ew h = absurd (subst T h tt)
+      go true true true ep ew h = rw (ep, ew) refl
+      go true false false ep ew h = rw (ep, ew) refl
+      go true false true ep ew h = rw (ep, ew) refl
+
+-- ---- a factor
+
+module _ (n : ℕ) (a : Triangle) where
+  -- column j is weak, and an entry below its pivot is not finite
+  abbrev pub weakOverflow : ℕ → Bool
+  weakOverflow j = weakColumn n a j && not (finiteBelow n a j)
+
+  -- 11 is reported of such a column
+  abbrev pub hidesWeak : ℕ → ℕ → Bool
+  hidesWeak code place = eqb code 11 && weakOverflow place
+
+-- what a factor of a returned and left under the former order, and what it returns and leaves now
+pub record Reordered (n : ℕ) (a : Triangle) (before after : Done) : Type 0 where
+  pub former :
+      T (hidesWeak n a (before .result .code) (before .result .place)) →
+      before .result ≡ record { code = 11; place = before .result .place; value = zero64; exact = false }
+  pub present :
+      T (hidesWeak n a (before .result .code) (before .result .place)) →
+      after .result ≡ record { code = 16; place = before .result .place; value = pivotOf n a (before .result .place); exact = false }
+  pub other : hidesWeak n a (before .result .code) (before .result .place) ≡ false → after .result ≡ before .result
+  pub matrix : after .matrix ≡ before .matrix
+  pub work : after .work ≡ before .work
+
+-- ---- the verdict of all columns
+
+module _ (n : ℕ) (a : Triangle) where
+  record Changed (v w : Verdict) : Type 0 where
+    at : ℕ
+    both : T (weakOverflow n a at)
+    before : v ≡ refusal 11 at zero64
+    after : w ≡ refusal 16 at (pivotOf n a at)
+
+  record Unchanged (v w : Verdict) : Type 0 where
+    other : hidesWeak n a (v .code) (v .place) ≡ false
+    same : w ≡ v
+
+  abbrev Related : Verdict → Verdict → Type 0
+  Related v w = Changed v w ⊎ Unchanged v w
+
+  related-accepted : (v w : Verdict) → Related v w → accepted w ≡ accepted v
+  related-accepted v w (inl q) = rw (q .before, q .after) refl
+  related-accepted v w (inr q) = rw (q .same) refl
+
+  column-related : (j : ℕ) → Related (columnBy overflowFirst n a j) (columnBy weakFirst n a j)
+  unfolding columnRules
+  column-related j = go (weakOverflow n a j) refl
+    where
+      former : Verdict
+      former = columnBy overflowFirst n a j
+
+      place : columnBy weakFirst n a j ≡ former → accepted former ≡ false → former .place ≡ j
+      place same e = rw (← same) (rules-place j (entry a j j) (pivotOf n a j) (finiteBelow n a j) (rw (← same) at e))
+
+      hides-none : (c : Bool) → eqb (former .code) 11 ≡ c → (accepted former ≡ false → former .place ≡ j) → weakOverflow n a j ≡ false → c && weakOverflow n a (former .place) ≡ false
+      hides-none true e at none =
+          let code : former .code ≡ 11 = eqb→eq (former .code) 11 (rw e tt) in
+          rw (at (ap (λ c. eqb c 0) code)) none
+      hides-none false e at none = refl
+
+      go : (c : Bool) → weakOverflow n a j ≡ c → Related former (columnBy weakFirst n a j)
+      go true e =
+          let changed = column-changed j (entry a j j) (pivotOf n a j) (finiteBelow n a j) (rw e tt) in
+          inl (record { at = j; both = rw e tt; before = changed .0; after = changed .1 })
+      go false e =
+          let same : columnBy weakFirst n a j ≡ former = column-same j (entry a j j) (pivotOf n a j) (finiteBelow n a j) e in
+          inr (record { other = hides-none (eqb (former .code) 11) refl (place same) e; same = same })
+
+  verdict-related : Related (verdictBy overflowFirst n a) (columnsVerdict n a)
+  unfolding columnsVerdict columnVerdict columnRules
+  verdict-related =
+      lowest-related Related related-accepted (inr (record { other = refl; same = refl })) (columnBy overflowFirst n a) (columnBy weakFirst n a) column-related n
+
+-- ---- the call, of both layouts
+
+finished-same : (layout : Layout) (n b : ℕ) (v w : Verdict) → accepted w ≡ accepted v → w .place ≡ v .place → finished layout n b w ≡ finished layout n b v
+finished-same Packed n b v w e p = rw (e, p) refl
+finished-same Blocked n b v w e p = rw (e, p) refl
+
+module _ (layout : Layout) (n b : ℕ) (matrix work : List Float) where
+  abbrev a : Triangle
+  a = load (placeOf layout n b) (height n) n matrix
+
+  abbrev checks : Verdict
+  checks = factorChecks layout n b matrix (length work)
+
+  factored-reordered : (v w : Verdict) → Related n a v w → Reordered n a (doneWith layout n b matrix work v) (doneWith layout n b matrix work w)
+  factored-reordered v w (inl q) =
+      rw (q .before, q .after)
+      (record {
+        former = λ t. refl;
+        present = λ t. refl;
+        other = λ h. absurd (subst T h (q .both));
+        matrix = ap (λ k. store (placeOf layout n b) (cholesky (height n) a k) matrix) (finished-same layout n b (refusal 11 (q .at) zero64) (refusal 16 (q .at) (pivotOf n a (q .at))) refl refl);
+        work = refl;
+      })
+  factored-reordered v w (inr q) =
+      rw (q .same)
+      (record {
+        former = λ t. absurd (subst T (q .other) t);
+        present = λ t. absurd (subst T (q .other) t);
+        other = λ h. refl;
+        matrix = refl;
+        work = refl;
+      })
+
+  pub order-changed : Reordered n a (factorizeBy overflowFirst layout n b matrix work) (factorize layout n b matrix work)
+  unfolding factorize factored
+  order-changed = go (accepted checks)
+    where
+      refused : Done
+      refused = record { result = resultOf checks; matrix = matrix; work = work }
+
+      go : (c : Bool) → Reordered n a (cond c (doneWith layout n b matrix work (verdictBy overflowFirst n a)) refused) (cond c (factored layout n b matrix work) refused)
+      go true = factored-reordered (verdictBy overflowFirst n a) (columnsVerdict n a) (verdict-related n a)
+      go false =
+          let no-11 = factor-checks-code layout n b matrix (length work) in
+          record {
+            former = λ t. absurd (let e : checks .code ≡ 11 = eqb→eq (checks .code) 11 (and-l (eqb (checks .code) 11) _ t) in omega (arith, no-11));
+            present = λ t. absurd (let e : checks .code ≡ 11 = eqb→eq (checks .code) 11 (and-l (eqb (checks .code) 11) _ t) in omega (arith, no-11));
+            other = λ h. refl;
+            matrix = refl;
+            work = refl;
+          }
