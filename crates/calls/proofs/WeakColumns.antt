@@ -14,7 +14,7 @@ use Rattle.binary64.specs.Judged.{judged}
 use Rattle.calls.specs.declared.Verdict.{Verdict}
 use Rattle.calls.specs.declared.Layout.{Layout}
 use Rattle.calls.specs.Triangles.{Triangle, entry, height, placeOf, load}
-use Rattle.calls.specs.Refusals.{accepted, firstRefusal, lowestRefusal, rule10, rule11, weak, columnRules, columnVerdict}
+use Rattle.calls.specs.Refusals.{accepted, firstRefusal, lowestRefusal, rule10, rule11, columnRules, columnVerdict}
 use Rattle.calls.specs.Calls.{Done, resultOf, factorChecks, judgeColumn, columnsVerdict, factored, factorize}
 use Rattle.calls.proofs.Refusals.{Lowest, lowest-refused}
 use Rattle.calls.proofs.ColumnRules.{weak-positive, rules-place, rules-16, rules-without-16}

@@ -2,7 +2,7 @@
 -- pivot. Nothing else that a factor returned or left changed. Assumes nothing.
 use Prim.Native.Nat.{ℕ, _<_}
 use native.Mathlib.Omega.{arith}
-use mathlib.Core.Path.{_≡_, refl, sym, ap, _∙_, subst}
+use mathlib.Core.Path.{_≡_, refl, ap, subst}
 use mathlib.Core.Logic.{_⊎_, inl, inr}
 use mathlib.Core.Bool.{Bool, true, false, cond, not, _&&_}
 use mathlib.Core.List.{List, [], _∷_}
@@ -36,6 +36,10 @@ abbrev pub weakFirst : Rules
 weakFirst j entered p finiteBelow = firstRefusal (rule10 j (judged p) ∷ rule16 j entered p ∷ rule11 j finiteBelow ∷ [])
 
 module _ (j : ℕ) (entered p : Float) where
+  pub rules-present : (f : Bool) → columnRules j entered p f ≡ weakFirst j entered p f
+  unfolding columnRules
+  rules-present f = refl
+
   -- a weak one with an entry below that is not finite
   pub column-changed :
       (f : Bool) → T (weak entered p && not f) → (overflowFirst j entered p f ≡ refusal 11 j zero64) × (weakFirst j entered p f ≡ refusal 16 j p)
@@ -66,19 +70,17 @@ module _ (n : ℕ) (a : Triangle) where
   abbrev pub weakOverflow : ℕ → Bool
   weakOverflow j = weakColumn n a j && not (finiteBelow n a j)
 
-  -- 11 is reported of such a column
-  abbrev pub hidesWeak : ℕ → ℕ → Bool
-  hidesWeak code place = eqb code 11 && weakOverflow place
+  -- r reports 11 of such a column
+  abbrev pub hidesWeak : CallResult → Bool
+  hidesWeak r = eqb (r .code) 11 && weakOverflow (r .place)
 
 -- what a factor of a returned and left under the former order, and what it returns and leaves now
 pub record Reordered (n : ℕ) (a : Triangle) (before after : Done) : Type 0 where
-  pub former :
-      T (hidesWeak n a (before .result .code) (before .result .place)) →
-      before .result ≡ record { code = 11; place = before .result .place; value = zero64; exact = false }
-  pub present :
-      T (hidesWeak n a (before .result .code) (before .result .place)) →
-      after .result ≡ record { code = 16; place = before .result .place; value = pivotOf n a (before .result .place); exact = false }
-  pub other : hidesWeak n a (before .result .code) (before .result .place) ≡ false → after .result ≡ before .result
+  pub changed :
+      T (hidesWeak n a (before .result)) →
+      (before .result ≡ record { code = 11; place = before .result .place; value = zero64; exact = false })
+      × (after .result ≡ record { code = 16; place = before .result .place; value = pivotOf n a (before .result .place); exact = false })
+  pub same : hidesWeak n a (before .result) ≡ false → after .result ≡ before .result
   pub matrix : after .matrix ≡ before .matrix
   pub work : after .work ≡ before .work
 
@@ -92,7 +94,7 @@ module _ (n : ℕ) (a : Triangle) where
     after : w ≡ refusal 16 at (pivotOf n a at)
 
   record Unchanged (v w : Verdict) : Type 0 where
-    other : hidesWeak n a (v .code) (v .place) ≡ false
+    other : hidesWeak n a (resultOf v) ≡ false
     same : w ≡ v
 
   abbrev Related : Verdict → Verdict → Type 0
@@ -112,7 +114,9 @@ module _ (n : ℕ) (a : Triangle) where
       place : columnBy weakFirst n a j ≡ former → accepted former ≡ false → former .place ≡ j
       place same e = rw (← same) (rules-place j (entry a j j) (pivotOf n a j) (finiteBelow n a j) (rw (← same) at e))
 
-      hides-none : (c : Bool) → eqb (former .code) 11 ≡ c → (accepted former ≡ false → former .place ≡ j) → weakOverflow n a j ≡ false → c && weakOverflow n a (former .place) ≡ false
+      hides-none :
+          (c : Bool) → eqb (former .code) 11 ≡ c → (accepted former ≡ false → former .place ≡ j) → weakOverflow n a j ≡ false →
+          c && weakOverflow n a (former .place) ≡ false
       hides-none true e at none =
           let code : former .code ≡ 11 = eqb→eq (former .code) 11 (rw e tt) in
           rw (at (ap (λ c. eqb c 0) code)) none
@@ -148,18 +152,16 @@ module _ (layout : Layout) (n b : ℕ) (matrix work : List Float) where
   factored-reordered v w (inl q) =
       rw (q .before, q .after)
       (record {
-        former = λ t. refl;
-        present = λ t. refl;
-        other = λ h. absurd (subst T h (q .both));
-        matrix = ap (λ k. store (placeOf layout n b) (cholesky (height n) a k) matrix) (finished-same layout n b (refusal 11 (q .at) zero64) (refusal 16 (q .at) (pivotOf n a (q .at))) refl refl);
+        changed = λ t. (refl, refl);
+        same = λ h. absurd (subst T h (q .both));
+        matrix = ap (λ k. store (placeOf layout n b) (cholesky (height n) a k) matrix) (finished-same layout n b _ _ refl refl);
         work = refl;
       })
   factored-reordered v w (inr q) =
       rw (q .same)
       (record {
-        former = λ t. absurd (subst T (q .other) t);
-        present = λ t. absurd (subst T (q .other) t);
-        other = λ h. refl;
+        changed = λ t. absurd (subst T (q .other) t);
+        same = λ h. refl;
         matrix = refl;
         work = refl;
       })
@@ -171,14 +173,15 @@ module _ (layout : Layout) (n b : ℕ) (matrix work : List Float) where
       refused : Done
       refused = record { result = resultOf checks; matrix = matrix; work = work }
 
-      go : (c : Bool) → Reordered n a (cond c (doneWith layout n b matrix work (verdictBy overflowFirst n a)) refused) (cond c (factored layout n b matrix work) refused)
+      go :
+          (c : Bool) →
+          Reordered n a (cond c (doneWith layout n b matrix work (verdictBy overflowFirst n a)) refused) (cond c (factored layout n b matrix work) refused)
       go true = factored-reordered (verdictBy overflowFirst n a) (columnsVerdict n a) (verdict-related n a)
       go false =
-          let no-11 = factor-checks-code layout n b matrix (length work) in
+          let below : checks .code < 10 = factor-checks-code layout n b matrix (length work) in
           record {
-            former = λ t. absurd (let e : checks .code ≡ 11 = eqb→eq (checks .code) 11 (and-l (eqb (checks .code) 11) _ t) in omega (arith, no-11));
-            present = λ t. absurd (let e : checks .code ≡ 11 = eqb→eq (checks .code) 11 (and-l (eqb (checks .code) 11) _ t) in omega (arith, no-11));
-            other = λ h. refl;
+            changed = λ t. absurd (let e : checks .code ≡ 11 = eqb→eq (checks .code) 11 (and-l (eqb (checks .code) 11) _ t) in omega (arith, below));
+            same = λ h. refl;
             matrix = refl;
             work = refl;
           }
