@@ -1,8 +1,8 @@
 /* Metsovary: Cholesky factor and solution of symmetric positive definite systems of order up to 4,000 in binary64, packed or by blocks, bit for bit
  * the same on both ways. Link libengine.a (rt staticlib engine).
  *
- * A call examines its orders, lengths and values itself, refuses by the first rule of the list below that holds, and touches only the memory that it is
- * lent. The caller owes: pointers to as many values as the length says (any pointer where that is 0), memories that do not overlap, the processor's default
+ * A call examines its orders, lengths and values itself, refuses by the first rule that holds, in the order of the list below but for 16, which stands
+ * between 10 and 11, and touches only the memory that it is lent. The caller owes: pointers to as many values as the length says (any pointer where that is 0), memories that do not overlap, the processor's default
  * rounding to nearest, and subnormal numbers that are not flushed to zero.
  *
  * Layouts of the lower triangle, entry (i, j), i >= j, counted from 0, n the order, b the block length:

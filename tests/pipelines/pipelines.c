@@ -244,8 +244,9 @@ static void weak_column(size_t n, size_t b, size_t column) {
     memory_free(l);
 }
 
-/* A weak column p, whose pivot is 2^-52, and 10 or 11 in column q: the lower of the two decides, and in one column 10 before 16 and 16 before 11. */
-static void weak_and_refused(size_t n, size_t b, size_t p, uint64_t code, size_t q) {
+/* A weak column p, whose pivot is 2^-52, and in column q 10, or 11 for an entry of this row: the lower of the two decides, and in one column 10 before 16 and 16
+ * before 11. */
+static void weak_and_refused(size_t n, size_t b, size_t p, uint64_t code, size_t q, size_t row) {
     metsovary_shape shape = {n, b};
     memory a = memory_new(triangle(n));
     for (size_t j = 0; j < n; j++) a.values[place(PACKED, shape, j, j)] = 4.0;
@@ -253,7 +254,7 @@ static void weak_and_refused(size_t n, size_t b, size_t p, uint64_t code, size_t
     a.values[place(PACKED, shape, p, p)] = 1.0 + 0x1p-52;
     if (code == 10) a.values[place(PACKED, shape, q, q)] = -3.0;
     if (code == 11 && p != q) a.values[place(PACKED, shape, q, q)] = ldexp(1, -1000);
-    if (code == 11) a.values[place(PACKED, shape, n - 1, q)] = ldexp(1, p == q ? 1000 : 600);
+    if (code == 11) a.values[place(PACKED, shape, row, q)] = ldexp(1, p == q ? 1000 : 600);
     metsovary_result r = both(shape, 0, a, memory_new(0), true);
     bool weak = p < q || (p == q && code == 11);
     double value = weak ? 0x1p-52 : code == 10 ? -3.0 - (p == q) : 0.0;
@@ -352,13 +353,14 @@ int main(void) {
         for (size_t b = 1; b <= n + 1; b++)
             for (size_t p = 1; p < n; p++)
                 for (size_t q = 0; q < n; q++) {
-                    weak_and_refused(n, b, p, 10, q);
-                    if (q + 1 < n) weak_and_refused(n, b, p, 11, q);
+                    weak_and_refused(n, b, p, 10, q, 0);
+                    for (size_t row = q + 1; row < n; row++) weak_and_refused(n, b, p, 11, q, row);
                 }
     for (size_t p = 1; p < 37; p++)
         for (size_t q = p % 3; q + 1 < 37; q += 3) {
-            weak_and_refused(37, 20, p, 10, q);
-            weak_and_refused(37, 20, p, 11, q);
+            weak_and_refused(37, 20, p, 10, q, 0);
+            weak_and_refused(37, 20, p, 11, q, q + 1);
+            weak_and_refused(37, 20, p, 11, q, 36);
         }
     group("blocked refusals 2 to 9 and 12");
     for (size_t n = 1; n <= 7; n++)

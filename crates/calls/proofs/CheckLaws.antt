@@ -1,4 +1,5 @@
--- Laws of the checks before any work: what an accepted rule, and an accepted check, says of its arguments. Assumes nothing.
+-- Laws of the checks before any work: what an accepted rule, and an accepted check, says of its arguments, and which codes a factor's checks answer. Assumes
+-- nothing.
 use Prim.Native.Nat.{ℕ, zero, suc, _*_, _≤_, _<_}
 use native.Mathlib.Omega.{arith}
 use mathlib.Core.Path.{_≡_, refl, sym, ap, _∙_}

@@ -20,6 +20,8 @@ use Rattle.calls.specs.Arithmetic.{minusProducts, pivot, quotient, below
 use Rattle.calls.specs.Refusals.{firstRefusal, lowestRefusal, rule1, rule2, rule3, rule4, rule5, rule6, finiteRule, rule9, rule11, weak, rule16, columnRules, columnVerdict, columnExact, rule12}
 use Rattle.calls.specs.Calls.{resultOf, clear, rearrangerChecks, moved, rearrange, factorChecks, columnsVerdict, columnsExact, factored, factorize, solverChecks, rhsPart, solution, rhsVerdict, solutions, solved, solve}
 use Rattle.calls.specs.Pipelines.{Ended, plainPipeline, blockedPipeline}
+use Rattle.calls.proofs.FactorsBy.{factorizeBy}
+use Rattle.calls.proofs.WeakFirst.{overflowFirst}
 
 -- ---- bit patterns
 
@@ -359,8 +361,12 @@ rows =
     ∷ judges one two false (11, 3, 0, false)
     ∷ judges one two true success
     ∷ judges one minusOne false (10, 3, minusOne, false)
-    ∷ factors Packed 3 2 3 (one ∷ one ∷ 0 ∷ onePlus ∷ twoTo1000 ∷ one ∷ []) (16, 1, twoToMinus52, false) (one ∷ one ∷ 0 ∷ onePlus ∷ twoTo1000 ∷ one ∷ [])
-    ∷ factors Blocked 3 2 6 (one ∷ one ∷ onePlus ∷ 0 ∷ twoTo1000 ∷ one ∷ []) (16, 1, twoToMinus52, false) (one ∷ one ∷ onePlus ∷ 0 ∷ twoTo1000 ∷ one ∷ [])
+    ∷ factors Packed 3 2 3 (four ∷ two ∷ 0 ∷ onePlus ∷ twoTo1000 ∷ one ∷ []) (16, 1, twoToMinus52, false) (two ∷ one ∷ 0 ∷ onePlus ∷ twoTo1000 ∷ one ∷ [])
+    ∷ factors Blocked 3 1 3 (four ∷ two ∷ 0 ∷ onePlus ∷ twoTo1000 ∷ one ∷ []) (16, 1, twoToMinus52, false) (two ∷ one ∷ 0 ∷ onePlus ∷ twoTo1000 ∷ one ∷ [])
+    ∷ factors Blocked 3 2 6 (four ∷ two ∷ onePlus ∷ 0 ∷ twoTo1000 ∷ one ∷ []) (16, 1, twoToMinus52, false) (four ∷ two ∷ onePlus ∷ 0 ∷ twoTo1000 ∷ one ∷ [])
+    -- It was 11.
+    ∷ gives (factorizeBy Packed 3 2 (memory (four ∷ two ∷ 0 ∷ onePlus ∷ twoTo1000 ∷ one ∷ [])) (used 3) overflowFirst .result) (11, 1, 0, false)
+    ∷ gives (factorizeBy Blocked 3 2 (memory (four ∷ two ∷ onePlus ∷ 0 ∷ twoTo1000 ∷ one ∷ [])) (used 6) overflowFirst .result) (11, 1, 0, false)
     -- Column 0 overflows, column 1 is weak and overflows: 11, place 0.
     ∷ factors Packed 3 2 3 (twoToMinus1000 ∷ twoToMinus500 ∷ twoTo600 ∷ onePlus ∷ 0 ∷ one ∷ []) (11, 0, 0, false)
     (twoToMinus1000 ∷ twoToMinus500 ∷ twoTo600 ∷ onePlus ∷ 0 ∷ one ∷ [])

@@ -1,6 +1,7 @@
 -- The factors with any rules for a column in the place of `columnRules`, for laws that say what a change of these rules changed. Assumes nothing.
 use Prim.Native.Nat.{ℕ}
-use mathlib.Core.Bool.{Bool, cond}
+use mathlib.Core.Path.{_≡_, refl}
+use mathlib.Core.Bool.{Bool, true, false, cond}
 use mathlib.Core.List.{List}
 use lib.ListN.{length}
 use lib.Ieee.{Float}
@@ -11,9 +12,9 @@ use Rattle.calls.specs.declared.Call.the-variants.{Factor}
 use Rattle.calls.specs.Sequences.{all}
 use Rattle.calls.specs.Triangles.{Triangle, entry, height, placeOf, load, store}
 use Rattle.calls.specs.Arithmetic.{pivot, below, cholesky}
-use Rattle.calls.specs.Refusals.{accepted, neededWork, lowestRefusal, weak}
+use Rattle.calls.specs.Refusals.{accepted, neededWork, lowestRefusal, weak, columnRules, columnVerdict}
 use Rattle.calls.specs.Judgements.{judgement}
-use Rattle.calls.specs.Calls.{Done, resultOf, judgedResult, clear, factorChecks, columnsExact, finished}
+use Rattle.calls.specs.Calls.{Done, resultOf, judgedResult, clear, factorChecks, columnsVerdict, columnsExact, finished, factored, factorize}
 
 -- ---- a column of a, the columns of its factor before it being known
 
@@ -29,16 +30,6 @@ module _ (n : ℕ) (a : Triangle) (j : ℕ) where
 
 -- ---- a factor
 
--- what a factor returns and leaves where its columns have this verdict
-abbrev pub doneWith : Layout → ℕ → ℕ → List Float → List Float → Verdict → Done
-doneWith layout n b matrix work verdict =
-    let a = load (placeOf layout n b) (height n) n matrix in
-    record {
-      result = judgedResult (judgement verdict (columnsExact n a));
-      matrix = store (placeOf layout n b) (cholesky (height n) a (finished layout n b verdict)) matrix;
-      work = clear (neededWork (Factor layout) n b) work;
-    }
-
 -- rules for a column, on what `columnRules` takes
 abbrev pub Rules : Type 0
 Rules = ℕ → Float → Float → Bool → Verdict
@@ -49,10 +40,42 @@ columnBy rules n a = λ j. rules j (entry a j j) (pivotOf n a j) (finiteBelow n 
 abbrev pub verdictBy : Rules → ℕ → Triangle → Verdict
 verdictBy rules n a = lowestRefusal (columnBy rules n a) n
 
--- `factorize` with these rules
-abbrev pub factorizeBy : Rules → Layout → ℕ → ℕ → List Float → List Float → Done
-factorizeBy rules layout n b matrix work =
-    let checks = factorChecks layout n b matrix (length work) in
-    cond (accepted checks)
-    (doneWith layout n b matrix work (verdictBy rules n (load (placeOf layout n b) (height n) n matrix)))
-    (record { result = resultOf checks; matrix = matrix; work = work })
+abbrev pub loaded : Layout → ℕ → ℕ → List Float → Triangle
+loaded layout n b matrix = load (placeOf layout n b) (height n) n matrix
+
+module _ (layout : Layout) (n b : ℕ) (matrix work : List Float) where
+  abbrev a : Triangle
+  a = loaded layout n b matrix
+
+  abbrev pub checks : Verdict
+  checks = factorChecks layout n b matrix (length work)
+
+  -- what it returns and leaves where a check refuses it, and where its columns have this verdict
+  abbrev pub untouched : Done
+  untouched = record { result = resultOf checks; matrix = matrix; work = work }
+
+  abbrev pub doneWith : Verdict → Done
+  doneWith verdict =
+      record {
+        result = judgedResult (judgement verdict (columnsExact n a));
+        matrix = store (placeOf layout n b) (cholesky (height n) a (finished layout n b verdict)) matrix;
+        work = clear (neededWork (Factor layout) n b) work;
+      }
+
+  -- `factorize` with these rules
+  abbrev pub factorizeBy : Rules → Done
+  factorizeBy rules = cond (accepted checks) (doneWith (verdictBy rules n a)) untouched
+
+  pub factorize-by : factorize layout n b matrix work ≡ factorizeBy columnRules
+  unfolding factorize factored columnsVerdict columnVerdict
+  factorize-by = refl
+
+  -- two factors are related where their columns' verdicts relate them
+  pub factors-related :
+      (R : Done → Done → Type 0) (rules rules′ : Rules) → (accepted checks ≡ true → R (doneWith (verdictBy rules n a)) (doneWith (verdictBy rules′ n a))) →
+      R untouched untouched → R (factorizeBy rules) (factorizeBy rules′)
+  factors-related R rules rules′ passed refused = go (accepted checks) refl
+    where
+      go : (c : Bool) → accepted checks ≡ c → R (cond c (doneWith (verdictBy rules n a)) untouched) (cond c (doneWith (verdictBy rules′ n a)) untouched)
+      go true e = passed e
+      go false e = refused

@@ -1,4 +1,4 @@
--- Laws of specs/Refusals.antt: when a rule passes, and what the lowest refused one says of those before it. Assumes nothing.
+-- Laws of specs/Refusals.antt: when a rule passes, what the lowest refused one says of those before it, and how it follows what is judged. Assumes nothing.
 use Prim.Native.Nat.{ℕ, zero, suc, _<_}
 use native.Mathlib.Omega.{arith}
 use native.Mathlib.Decide.{decLt}
@@ -76,7 +76,7 @@ lowest-accepted judge (suc n) t k h =
     both : T (accepted (lowestRefusal judge n)) × T (accepted (judge n))
     both = go (accepted (lowestRefusal judge n)) refl t
 
--- a relation of verdicts that are accepted alike
+-- where each pair is related, by a relation of verdicts that are accepted alike, so are the lowest refusals
 pub lowest-related :
     (R : Verdict → Verdict → Type 0) → ((v w : Verdict) → R v w → accepted w ≡ accepted v) → R success success → (judge judge′ : ℕ → Verdict) →
     ((k : ℕ) → R (judge k) (judge′ k)) → (n : ℕ) → R (lowestRefusal judge n) (lowestRefusal judge′ n)

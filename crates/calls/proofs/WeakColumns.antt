@@ -7,19 +7,18 @@ use mathlib.Core.Logic.{_≢_}
 use mathlib.Core.Bool.{Bool, true, false, cond, not}
 use mathlib.Core.List.{List, [], _∷_}
 use lib.Dec.{T, eqb}
-use lib.ListN.{length}
 use lib.Ieee.{Float}
 use Rattle.binary64.specs.Kinds.{finite, positive}
 use Rattle.binary64.specs.Judged.{judged}
 use Rattle.calls.specs.declared.Verdict.{Verdict}
 use Rattle.calls.specs.declared.Layout.{Layout}
-use Rattle.calls.specs.Triangles.{Triangle, entry, height, placeOf, load}
+use Rattle.calls.specs.Triangles.{Triangle, entry}
 use Rattle.calls.specs.Refusals.{accepted, firstRefusal, lowestRefusal, rule10, rule11, columnRules, columnVerdict}
-use Rattle.calls.specs.Calls.{Done, resultOf, factorChecks, judgeColumn, columnsVerdict, factored, factorize}
+use Rattle.calls.specs.Calls.{judgeColumn, columnsVerdict, factored, factorize}
 use Rattle.calls.proofs.Refusals.{Lowest, lowest-refused}
 use Rattle.calls.proofs.ColumnRules.{weak-positive, rules-place, rules-16, rules-without-16}
 use Rattle.calls.proofs.Columns.{FiniteMatrix, pivot-finite, columns-finite}
-use Rattle.calls.proofs.FactorsBy.{pivotOf, finiteBelow, weakColumn, doneWith, Rules, columnBy, verdictBy, factorizeBy}
+use Rattle.calls.proofs.FactorsBy.{pivotOf, finiteBelow, weakColumn, Rules, columnBy, verdictBy, loaded, checks, doneWith, factorizeBy, factorize-by, factors-related}
 
 -- ---- code 16
 
@@ -103,27 +102,21 @@ module _ (n : ℕ) (a : Triangle) where
 
 module _ (layout : Layout) (n b : ℕ) (matrix work : List Float) where
   abbrev a : Triangle
-  a = load (placeOf layout n b) (height n) n matrix
+  a = loaded layout n b matrix
 
-  abbrev checks : Verdict
-  checks = factorChecks layout n b matrix (length work)
-
-  same-call : (accepted checks ≡ true → columnsVerdict n a .code ≢ 16) → factorize layout n b matrix work ≡ factorizeBy without16 layout n b matrix work
-  unfolding factorize factored
-  same-call other = go (accepted checks) refl
-    where
-      refused : Done
-      refused = record { result = resultOf checks; matrix = matrix; work = work }
-
-      go : (c : Bool) → accepted checks ≡ c → cond c (factored layout n b matrix work) refused ≡ cond c (doneWith layout n b matrix work (verdictBy without16 n a)) refused
-      go true e = rw (verdict-former n a (other e)) refl
-      go false e = refl
+  same-call :
+      (accepted (checks layout n b matrix work) ≡ true → columnsVerdict n a .code ≢ 16) →
+      factorize layout n b matrix work ≡ factorizeBy layout n b matrix work without16
+  unfolding columnsVerdict columnVerdict
+  same-call other =
+      factorize-by layout n b matrix work
+      ∙ factors-related layout n b matrix work (λ x y. x ≡ y) columnRules without16 (λ e. ap (doneWith layout n b matrix work) (verdict-former n a (other e))) refl
 
   -- a factor that does not answer 16
-  pub as-before : factorize layout n b matrix work .result .code ≢ 16 → factorize layout n b matrix work ≡ factorizeBy without16 layout n b matrix work
+  pub as-before : factorize layout n b matrix work .result .code ≢ 16 → factorize layout n b matrix work ≡ factorizeBy layout n b matrix work without16
   unfolding factorize factored
   as-before other = same-call (λ e h. other (rw e h))
 
   -- and one without a weak column
-  pub none-weak : ((j : ℕ) → j < n → weakColumn n a j ≡ false) → factorize layout n b matrix work ≡ factorizeBy without16 layout n b matrix work
+  pub none-weak : ((j : ℕ) → j < n → weakColumn n a j ≡ false) → factorize layout n b matrix work ≡ factorizeBy layout n b matrix work without16
   none-weak none = same-call (λ e. not-16 n a none)

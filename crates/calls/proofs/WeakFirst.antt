@@ -2,9 +2,9 @@
 -- pivot. Nothing else that a factor returned or left changed. Assumes nothing.
 use Prim.Native.Nat.{ℕ, _<_}
 use native.Mathlib.Omega.{arith}
-use mathlib.Core.Path.{_≡_, refl, ap, subst}
+use mathlib.Core.Path.{_≡_, refl, ap, _∙_, subst}
 use mathlib.Core.Logic.{_⊎_, inl, inr}
-use mathlib.Core.Bool.{Bool, true, false, cond, not, _&&_}
+use mathlib.Core.Bool.{Bool, true, false, not, _&&_}
 use mathlib.Core.List.{List, [], _∷_}
 use lib.Dec.{T, eqb, eqb→eq}
 use lib.ListN.{length}
@@ -17,14 +17,13 @@ use Rattle.calls.specs.declared.Verdict.{Verdict}
 use Rattle.calls.specs.declared.CallResult.{CallResult}
 use Rattle.calls.specs.declared.Layout.{Layout}
 use Rattle.calls.specs.declared.Layout.the-variants.{Packed, Blocked}
-use Rattle.calls.specs.Triangles.{Triangle, entry, height, placeOf, load, store}
-use Rattle.calls.specs.Arithmetic.{cholesky}
-use Rattle.calls.specs.Refusals.{accepted, refusal, firstRefusal, rule10, rule11, weak, rule16, columnRules, columnVerdict}
-use Rattle.calls.specs.Calls.{Done, resultOf, factorChecks, columnsVerdict, finished, factored, factorize}
+use Rattle.calls.specs.Triangles.{Triangle, entry}
+use Rattle.calls.specs.Refusals.{accepted, refusal, firstRefusal, rule10, rule11, weak, rule16, columnRules}
+use Rattle.calls.specs.Calls.{Done, resultOf, factorize}
 use Rattle.calls.proofs.Refusals.{lowest-related}
 use Rattle.calls.proofs.ColumnRules.{weak-positive, rules-place}
 use Rattle.calls.proofs.CheckLaws.{factor-checks-code}
-use Rattle.calls.proofs.FactorsBy.{pivotOf, finiteBelow, weakColumn, doneWith, Rules, columnBy, verdictBy, factorizeBy}
+use Rattle.calls.proofs.FactorsBy.{pivotOf, finiteBelow, weakColumn, Rules, columnBy, verdictBy, loaded, checks, untouched, doneWith, factorizeBy, factorize-by, factors-related}
 
 -- ---- one column
 
@@ -36,6 +35,7 @@ abbrev pub weakFirst : Rules
 weakFirst j entered p finiteBelow = firstRefusal (rule10 j (judged p) ∷ rule16 j entered p ∷ rule11 j finiteBelow ∷ [])
 
 module _ (j : ℕ) (entered p : Float) where
+  -- the present order is that of the rules
   pub rules-present : (f : Bool) → columnRules j entered p f ≡ weakFirst j entered p f
   unfolding columnRules
   rules-present f = refl
@@ -104,14 +104,13 @@ module _ (n : ℕ) (a : Triangle) where
   related-accepted v w (inl q) = rw (q .before, q .after) refl
   related-accepted v w (inr q) = rw (q .same) refl
 
-  column-related : (j : ℕ) → Related (columnBy overflowFirst n a j) (columnBy weakFirst n a j)
-  unfolding columnRules
+  column-related : (j : ℕ) → Related (columnBy overflowFirst n a j) (columnBy columnRules n a j)
   column-related j = go (weakOverflow n a j) refl
     where
       former : Verdict
       former = columnBy overflowFirst n a j
 
-      place : columnBy weakFirst n a j ≡ former → accepted former ≡ false → former .place ≡ j
+      place : columnBy columnRules n a j ≡ former → accepted former ≡ false → former .place ≡ j
       place same e = rw (← same) (rules-place j (entry a j j) (pivotOf n a j) (finiteBelow n a j) (rw (← same) at e))
 
       hides-none :
@@ -122,66 +121,55 @@ module _ (n : ℕ) (a : Triangle) where
           rw (at (ap (λ c. eqb c 0) code)) none
       hides-none false e at none = refl
 
-      go : (c : Bool) → weakOverflow n a j ≡ c → Related former (columnBy weakFirst n a j)
+      present : columnBy columnRules n a j ≡ columnBy weakFirst n a j
+      present = rules-present j (entry a j j) (pivotOf n a j) (finiteBelow n a j)
+
+      go : (c : Bool) → weakOverflow n a j ≡ c → Related former (columnBy columnRules n a j)
       go true e =
           let changed = column-changed j (entry a j j) (pivotOf n a j) (finiteBelow n a j) (rw e tt) in
-          inl (record { at = j; both = rw e tt; before = changed .0; after = changed .1 })
+          inl (record { at = j; both = rw e tt; before = changed .0; after = present ∙ changed .1 })
       go false e =
-          let same : columnBy weakFirst n a j ≡ former = column-same j (entry a j j) (pivotOf n a j) (finiteBelow n a j) e in
+          let same : columnBy columnRules n a j ≡ former = present ∙ column-same j (entry a j j) (pivotOf n a j) (finiteBelow n a j) e in
           inr (record { other = hides-none (eqb (former .code) 11) refl (place same) e; same = same })
 
-  verdict-related : Related (verdictBy overflowFirst n a) (columnsVerdict n a)
-  unfolding columnsVerdict columnVerdict columnRules
+  verdict-related : Related (verdictBy overflowFirst n a) (verdictBy columnRules n a)
   verdict-related =
-      lowest-related Related related-accepted (inr (record { other = refl; same = refl })) (columnBy overflowFirst n a) (columnBy weakFirst n a) column-related n
+      lowest-related Related related-accepted (inr (record { other = refl; same = refl })) (columnBy overflowFirst n a) (columnBy columnRules n a) column-related n
 
 -- ---- the call, of both layouts
 
-finished-same : (layout : Layout) (n b : ℕ) (v w : Verdict) → accepted w ≡ accepted v → w .place ≡ v .place → finished layout n b w ≡ finished layout n b v
-finished-same Packed n b v w e p = rw (e, p) refl
-finished-same Blocked n b v w e p = rw (e, p) refl
-
 module _ (layout : Layout) (n b : ℕ) (matrix work : List Float) where
   abbrev a : Triangle
-  a = load (placeOf layout n b) (height n) n matrix
+  a = loaded layout n b matrix
 
-  abbrev checks : Verdict
-  checks = factorChecks layout n b matrix (length work)
-
-  factored-reordered : (v w : Verdict) → Related n a v w → Reordered n a (doneWith layout n b matrix work v) (doneWith layout n b matrix work w)
-  factored-reordered v w (inl q) =
+  done-reordered : (v w : Verdict) → Related n a v w → Reordered n a (doneWith layout n b matrix work v) (doneWith layout n b matrix work w)
+  done-reordered v w (inl q) =
       rw (q .before, q .after)
       (record {
         changed = λ t. (refl, refl);
         same = λ h. absurd (subst T h (q .both));
-        matrix = ap (λ k. store (placeOf layout n b) (cholesky (height n) a k) matrix) (finished-same layout n b _ _ refl refl);
+        matrix = elim layout [
+          | Packed ↦ refl
+          | Blocked ↦ refl
+        ];
         work = refl;
       })
-  factored-reordered v w (inr q) =
-      rw (q .same)
-      (record {
-        changed = λ t. absurd (subst T (q .other) t);
+  done-reordered v w (inr q) =
+      rw (q .same) (record { changed = λ t. absurd (subst T (q .other) t); same = λ h. refl; matrix = refl; work = refl })
+
+  -- no check answers 11
+  untouched-reordered : Reordered n a (untouched layout n b matrix work) (untouched layout n b matrix work)
+  untouched-reordered =
+      let code : ℕ = checks layout n b matrix work .code in
+      let below : code < 10 = factor-checks-code layout n b matrix (length work) in
+      record {
+        changed = λ t. absurd (let e : code ≡ 11 = eqb→eq code 11 (and-l (eqb code 11) _ t) in omega (arith, below));
         same = λ h. refl;
         matrix = refl;
         work = refl;
-      })
+      }
 
-  pub order-changed : Reordered n a (factorizeBy overflowFirst layout n b matrix work) (factorize layout n b matrix work)
-  unfolding factorize factored
-  order-changed = go (accepted checks)
-    where
-      refused : Done
-      refused = record { result = resultOf checks; matrix = matrix; work = work }
-
-      go :
-          (c : Bool) →
-          Reordered n a (cond c (doneWith layout n b matrix work (verdictBy overflowFirst n a)) refused) (cond c (factored layout n b matrix work) refused)
-      go true = factored-reordered (verdictBy overflowFirst n a) (columnsVerdict n a) (verdict-related n a)
-      go false =
-          let below : checks .code < 10 = factor-checks-code layout n b matrix (length work) in
-          record {
-            changed = λ t. absurd (let e : checks .code ≡ 11 = eqb→eq (checks .code) 11 (and-l (eqb (checks .code) 11) _ t) in omega (arith, below));
-            same = λ h. refl;
-            matrix = refl;
-            work = refl;
-          }
+  pub order-changed : Reordered n a (factorizeBy layout n b matrix work overflowFirst) (factorize layout n b matrix work)
+  order-changed =
+      rw (factorize-by layout n b matrix work)
+      (factors-related layout n b matrix work (Reordered n a) overflowFirst columnRules (λ e. done-reordered _ _ (verdict-related n a)) untouched-reordered)
