@@ -2,8 +2,8 @@
  * the same on both ways. Link libengine.a (rt staticlib engine).
  *
  * A call examines its orders, lengths and values itself, refuses by the first rule that holds, in the order of the list below but for 16, which stands
- * between 10 and 11, and touches only the memory that it is lent. The caller owes: pointers to as many values as the length says (any pointer where that is 0), memories that do not overlap, the processor's default
- * rounding to nearest, and subnormal numbers that are not flushed to zero.
+ * between 10 and 11, and touches only the memory that it is lent. The caller owes: pointers to as many values as the length says (any pointer where that
+ * is 0), memories that do not overlap, the processor's default rounding to nearest, and subnormal numbers that are not flushed to zero.
  *
  * Layouts of the lower triangle, entry (i, j), i >= j, counted from 0, n the order, b the block length:
  *   packed    i + j(2n - j - 1)/2
