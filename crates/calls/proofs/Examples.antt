@@ -364,7 +364,7 @@ rows =
     ∷ factors Packed 3 2 3 (four ∷ two ∷ 0 ∷ onePlus ∷ twoTo1000 ∷ one ∷ []) (16, 1, twoToMinus52, false) (two ∷ one ∷ 0 ∷ onePlus ∷ twoTo1000 ∷ one ∷ [])
     ∷ factors Blocked 3 1 3 (four ∷ two ∷ 0 ∷ onePlus ∷ twoTo1000 ∷ one ∷ []) (16, 1, twoToMinus52, false) (two ∷ one ∷ 0 ∷ onePlus ∷ twoTo1000 ∷ one ∷ [])
     ∷ factors Blocked 3 2 6 (four ∷ two ∷ onePlus ∷ 0 ∷ twoTo1000 ∷ one ∷ []) (16, 1, twoToMinus52, false) (four ∷ two ∷ onePlus ∷ 0 ∷ twoTo1000 ∷ one ∷ [])
-    -- It was 11.
+    -- Under the former order it is 11.
     ∷ gives (factorizeBy Packed 3 2 (memory (four ∷ two ∷ 0 ∷ onePlus ∷ twoTo1000 ∷ one ∷ [])) (used 3) overflowFirst .result) (11, 1, 0, false)
     ∷ gives (factorizeBy Blocked 3 2 (memory (four ∷ two ∷ onePlus ∷ 0 ∷ twoTo1000 ∷ one ∷ [])) (used 6) overflowFirst .result) (11, 1, 0, false)
     -- Column 0 overflows, column 1 is weak and overflows: 11, place 0.
