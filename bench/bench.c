@@ -85,15 +85,16 @@ static int n, block, sides;                           /* the order; the subject'
 static size_t length;
 static double *original, *matrix, *full;              /* the packed matrix; what a call works on, as a triangle or as a square */
 static double *factor, *blocked_factor;               /* of the matrix, by the engine */
-static int factor_block;                              /* the block length of the blocked one */
+static metsovary_shape matrix_shape, factor_shape, blocked_shape; /* what the engine is told that matrix and the two factors hold */
 static double *right_sides, *solutions, *x, *work;    /* MANY right-hand sides, their solutions by the engine; what a solver works on */
 
-static metsovary_shape shape(void) { return (metsovary_shape){(uint64_t)n, (uint64_t)block}; }
+static metsovary_shape shape(uint64_t state) { return (metsovary_shape){(uint64_t)n, (uint64_t)block, state}; }
 static size_t block_work(void) { return (size_t)n * (size_t)(n < block ? n : block); }
 static size_t rhs_length(void) { return (size_t)n * (size_t)sides; }
 
-static void accept(const char *call, metsovary_result r) {
+static metsovary_shape accept(const char *call, metsovary_result r) {
     if (r.code != 0) die(call, "refused");
+    return r.shape;
 }
 
 static double *values(size_t count) {
@@ -117,7 +118,7 @@ static double random_unit(void) {
 
 /* The matrix has n on its diagonal and values between -1 and 1 below it, so it is positive definite. */
 static void make_operands(int order) {
-    n = order, block = MAX_BLOCK, sides = MANY, factor_block = 0;
+    n = order, block = MAX_BLOCK, sides = MANY, blocked_shape = (metsovary_shape){0};
     length = (size_t)n * (size_t)(n + 1) / 2;
     original = values(length), matrix = values(length), full = values((size_t)n * (size_t)n);
     factor = values(length), blocked_factor = values(length);
@@ -128,9 +129,9 @@ static void make_operands(int order) {
         for (int i = j; i < n; i++) original[p++] = i == j ? n : random_unit();
     for (size_t k = 0; k < rhs_length(); k++) right_sides[k] = random_unit();
     copy(factor, original, length);
-    accept("factor_plain", metsovary_factor_plain(shape(), factor, length, work, (size_t)n));
+    factor_shape = accept("factor_plain", metsovary_factor_plain(shape(METSOVARY_PACKED_RAW), factor, length, work, (size_t)n));
     copy(solutions, right_sides, rhs_length());
-    accept("solve_plain", metsovary_solve_plain(shape(), (uint64_t)sides, factor, length, solutions, rhs_length(), work, (size_t)n));
+    accept("solve_plain", metsovary_solve_plain(factor_shape, (uint64_t)sides, factor, length, solutions, rhs_length(), work, (size_t)n));
 }
 
 static void free_operands(void) {
@@ -140,15 +141,18 @@ static void free_operands(void) {
 
 /* ---- before a call, not timed: what it works on ---- */
 
-static void set_packed(void) { copy(matrix, original, length); }
+static void set_packed(void) {
+    copy(matrix, original, length);
+    matrix_shape = shape(METSOVARY_PACKED_RAW);
+}
 
-static void rearrange(double *packed) {
-    accept("packed_to_blocked", metsovary_packed_to_blocked(shape(), packed, length, work, block_work()));
+static metsovary_shape rearrange(metsovary_shape packed_shape, double *packed) {
+    return accept("packed_to_blocked", metsovary_packed_to_blocked(packed_shape, packed, length, work, block_work()));
 }
 
 static void set_blocked(void) {
     set_packed();
-    rearrange(matrix);
+    matrix_shape = rearrange(matrix_shape, matrix);
 }
 
 static void set_full(void) {
@@ -163,10 +167,9 @@ static void set_right_sides(void) { copy(x, right_sides, rhs_length()); }
 
 static void set_blocked_factor(void) {
     set_right_sides();
-    if (factor_block == block) return;
+    if (blocked_shape.block == (uint64_t)block) return;
     copy(blocked_factor, factor, length);
-    rearrange(blocked_factor);
-    factor_block = block;
+    blocked_shape = rearrange(shape(METSOVARY_PACKED_FACTOR), blocked_factor);
 }
 
 /* ---- calls ---- */
@@ -177,12 +180,12 @@ static void agree(const char *call, double value, double wanted) {
 }
 
 static void factor_blocked(void) {
-    accept("factor_blocked", metsovary_factor_blocked(shape(), matrix, length, work, block_work()));
+    matrix_shape = accept("factor_blocked", metsovary_factor_blocked(matrix_shape, matrix, length, work, block_work()));
     agree("factor_blocked", matrix[length - 1], factor[length - 1]);
 }
 
 static void factor_plain(void) {
-    accept("factor_plain", metsovary_factor_plain(shape(), matrix, length, work, (size_t)n));
+    matrix_shape = accept("factor_plain", metsovary_factor_plain(matrix_shape, matrix, length, work, (size_t)n));
     agree("factor_plain", matrix[length - 1], factor[length - 1]);
 }
 
@@ -222,12 +225,12 @@ static void peak(void) {
 static void agree_on_solution(const char *call) { agree(call, x[rhs_length() - (size_t)n], solutions[rhs_length() - (size_t)n]); }
 
 static void solve_plain(void) {
-    accept("solve_plain", metsovary_solve_plain(shape(), (uint64_t)sides, factor, length, x, rhs_length(), work, (size_t)n));
+    accept("solve_plain", metsovary_solve_plain(factor_shape, (uint64_t)sides, factor, length, x, rhs_length(), work, (size_t)n));
     agree_on_solution("solve_plain");
 }
 
 static void solve_blocked(void) {
-    accept("solve_blocked", metsovary_solve_blocked(shape(), (uint64_t)sides, blocked_factor, length, x, rhs_length(), work, (size_t)n));
+    accept("solve_blocked", metsovary_solve_blocked(blocked_shape, (uint64_t)sides, blocked_factor, length, x, rhs_length(), work, (size_t)n));
     agree_on_solution("solve_blocked");
 }
 
@@ -237,10 +240,10 @@ static void dpptrs_of_reference(void) {
     agree_on_solution("dpptrs");
 }
 
-static void packed_to_blocked(void) { rearrange(matrix); }
+static void packed_to_blocked(void) { matrix_shape = rearrange(matrix_shape, matrix); }
 
 static void blocked_to_packed(void) {
-    accept("blocked_to_packed", metsovary_blocked_to_packed(shape(), matrix, length, work, block_work()));
+    matrix_shape = accept("blocked_to_packed", metsovary_blocked_to_packed(matrix_shape, matrix, length, work, block_work()));
 }
 
 static void copy_matrix(void) { copy(matrix, original, length); }

@@ -27,26 +27,27 @@ static void print(const char *name, const double *values, size_t length) {
 }
 
 int main(void) {
-    metsovary_shape shape = {N, 2};
+    metsovary_shape shape = {.order = N, .block = 2}; /* of a packed matrix; each call gets the shape that the one before it returned */
+    metsovary_result r;
     double work[N * 2]; /* n min(n, b) values are enough for every call */
     double a[TRIANGLE], x[N];
 
     memcpy(a, system_matrix, sizeof a);
     memcpy(x, right_side, sizeof x);
-    metsovary_result plain = check("factor", metsovary_factor_plain(shape, a, TRIANGLE, work, N));
-    check("solve", metsovary_solve_plain(shape, 1, a, TRIANGLE, x, N, work, N));
+    r = check("factor", metsovary_factor_plain(shape, a, TRIANGLE, work, N));
     print("plain factor", a, TRIANGLE);
-    printf("every root exact: %s\n", plain.exact ? "yes" : "no");
+    printf("every root exact: %s\n", r.exact ? "yes" : "no");
+    check("solve", metsovary_solve_plain(r.shape, 1, a, TRIANGLE, x, N, work, N));
     print("solution", x, N);
 
     memcpy(a, system_matrix, sizeof a);
     memcpy(x, right_side, sizeof x);
-    check("packed to blocked", metsovary_packed_to_blocked(shape, a, TRIANGLE, work, N * 2));
-    metsovary_result blocked = check("factor", metsovary_factor_blocked(shape, a, TRIANGLE, work, N * 2));
+    r = check("packed to blocked", metsovary_packed_to_blocked(shape, a, TRIANGLE, work, N * 2));
+    r = check("factor", metsovary_factor_blocked(r.shape, a, TRIANGLE, work, N * 2));
     print("blocked factor", a, TRIANGLE);
-    printf("every root exact: %s\n", blocked.exact ? "yes" : "no");
-    check("solve", metsovary_solve_blocked(shape, 1, a, TRIANGLE, x, N, work, N * 2));
-    check("blocked to packed", metsovary_blocked_to_packed(shape, a, TRIANGLE, work, N * 2));
+    printf("every root exact: %s\n", r.exact ? "yes" : "no");
+    r = check("solve", metsovary_solve_blocked(r.shape, 1, a, TRIANGLE, x, N, work, N * 2));
+    check("blocked to packed", metsovary_blocked_to_packed(r.shape, a, TRIANGLE, work, N * 2));
     print("the same, packed", a, TRIANGLE);
     print("solution", x, N);
     return 0;

@@ -1,19 +1,33 @@
 /* Metsovary: Cholesky factor and solution of symmetric positive definite systems of order up to 4,000 in binary64, packed or by blocks, bit for bit
  * the same on both ways. Link libengine.a (rt staticlib engine).
  *
- * A call examines its orders, lengths and values itself, refuses by the first rule that holds, in the order of the list below but for 16, which stands
- * between 10 and 11, and touches only the memory that it is lent. The caller owes: pointers to as many values as the length says (any pointer where that
- * is 0), memories that do not overlap, the processor's default rounding to nearest, and subnormal numbers that are not flushed to zero.
+ * A call examines its orders, lengths, states and values itself, refuses by the first rule that holds, in the order of the list below, and touches only the
+ * memory that it is lent. The caller owes: pointers to as many values as the length says (any pointer where that is 0), memories that do not overlap, the
+ * processor's default rounding to nearest, and subnormal numbers that are not flushed to zero.
  *
  * Layouts of the lower triangle, entry (i, j), i >= j, counted from 0, n the order, b the block length:
  *   packed    i + j(2n - j - 1)/2
  *   blocked   c = b floor(j / b), w = min(b, n - c), r = i - c, s = j - c; from c(2n - c + 1)/2 on:
  *             r(r + 1)/2 + s where r < w, else w(w + 1)/2 + (r - w)w + s
  *
+ * A shape says what its matrix memory holds. Fill in the order and the block length of a shape of zeros for a packed matrix, and hand each call the shape that
+ * the one before it returned for that memory:
+ *   call                  wants           gives on success
+ *   packed to blocked     packed raw      blocked raw
+ *                         packed factor   blocked factor
+ *   blocked to packed     blocked raw     packed raw
+ *                         blocked factor  packed factor
+ *   plain factor          packed raw      packed factor
+ *   blocked factor        blocked raw     blocked factor
+ *   plain solver          packed factor   the same
+ *   blocked solver        blocked factor  the same
+ * After 10, 11 and 16 the shape returned says spent, which no call takes; after every other refusal it is the shape that was handed in.
+ *
  * code  meaning                                                               place
  *    0  success                                                               0
  *    1  the order is over 4,000                                               0
  *    2  a call that works by blocks: the block length is 0 or over 200        0
+ *   15  the state does not suit the call                                      0
  *    3  the matrix is not exactly n(n + 1)/2 values                           0
  *    4  the work memory is too short                                          0
  *    5  a solver: over 1,000 right-hand sides                                 0
@@ -22,15 +36,15 @@
  *    8  a solver: a right-hand-side value is not finite                       its lowest position
  *    9  a solver: a diagonal value is not greater than zero                   its lowest column
  *   10  a factor: a pivot is not greater than zero; value: the pivot          the lowest refused column
+ *   16  a factor: a column is weak, its pivot greater than zero but not       the lowest refused column
+ *       greater than 2^-40 of a(j, j) at entry; value: the pivot
  *   11  a factor: an entry below a pivot greater than zero is not finite      the lowest refused column
  *   12  a solver: a y or an x, of the forward or backward substitution,       the lowest such right-hand side
  *       is not finite
- *   16  a factor: a column is weak, its pivot greater than zero but not       the lowest refused column
- *       greater than 2^-40 of a(j, j) at entry; value: the pivot
  *
- * Of one column 10 comes before 16, and 16 before 11; of several columns the lowest refused one decides. The value is +0 except under 10, where it may be minus
- * infinity, and under 16. exact: a factor succeeds, and the square of each of its roots is the pivot exactly; so it is true of an accepted order 0. It is false
- * after every refusal, and from rearrangers and solvers, which take no root. After 1 to 9 all memory is as it was. On success and after 10 to 12 and 16 the needed
+ * Of 10, 16 and 11 the lowest refused column decides, and the list's order only within it. The value is +0 except under 10, where it may be minus infinity, and
+ * under 16. exact: a factor succeeds, and the square of each of its roots is the pivot exactly; so it is true of an accepted order 0. It is false after every
+ * refusal, and from rearrangers and solvers, which take no root. After 1 to 9 and 15 all memory is as it was. On success and after 10 to 12 and 16 the needed
  * length of work memory is +0 and the rest as it was. */
 #ifndef METSOVARY_H
 #define METSOVARY_H
@@ -43,8 +57,11 @@
 extern "C" {
 #endif
 
-typedef struct { uint64_t order, block; } metsovary_shape;
-typedef struct { uint64_t code, place; double value; bool exact; } metsovary_result;
+/* The states of a shape. Any other number suits no call. */
+enum { METSOVARY_PACKED_RAW, METSOVARY_BLOCKED_RAW, METSOVARY_PACKED_FACTOR, METSOVARY_BLOCKED_FACTOR, METSOVARY_SPENT };
+
+typedef struct { uint64_t order, block, state; } metsovary_shape;
+typedef struct { uint64_t code, place; double value; bool exact; metsovary_shape shape; } metsovary_result;
 
 /* Rearrange a matrix or a factor in its own memory: packed to blocked, and back. Values of every kind move with their bits kept. Work: n min(n, b) values. */
 metsovary_result metsovary_packed_to_blocked(metsovary_shape, double *matrix, size_t, double *work, size_t);

@@ -4,9 +4,15 @@
 #include <math.h>
 #include <stdarg.h>
 
-_Static_assert(sizeof(metsovary_result) == 32 && offsetof(metsovary_result, value) == 16 && offsetof(metsovary_result, exact) == 24, "the layout of a result");
+_Static_assert(sizeof(metsovary_shape) == 24 && offsetof(metsovary_shape, block) == 8 && offsetof(metsovary_shape, state) == 16, "the layout of a shape");
+_Static_assert(sizeof(metsovary_result) == 56 && offsetof(metsovary_result, value) == 16 && offsetof(metsovary_result, exact) == 24
+    && offsetof(metsovary_result, shape) == 32, "the layout of a result");
 
 /* ---- places ---- */
+
+size_t triangle(size_t n) { return n * (n + 1) / 2; }
+
+size_t needed(size_t n, size_t b) { return n * (n < b ? n : b); }
 
 size_t place(enum layout layout, metsovary_shape shape, size_t i, size_t j) {
     size_t n = shape.order, b = shape.block;
@@ -15,29 +21,57 @@ size_t place(enum layout layout, metsovary_shape shape, size_t i, size_t j) {
     return c * (2 * n - c + 1) / 2 + (r < w ? r * (r + 1) / 2 + s : w * (w + 1) / 2 + (r - w) * w + s);
 }
 
+/* ---- states ---- */
+
+enum operation { REARRANGE, FACTOR, SOLVE };
+
+/* a call, by what it does and the layout that it wants, and the shape that it is handed */
+typedef struct { enum operation operation; enum layout layout; metsovary_shape shape; } task;
+
+typedef struct { enum operation operation; enum layout layout; uint64_t wanted, given; } state_row;
+
+static const state_row state_rows[] = {
+    {REARRANGE, PACKED, METSOVARY_PACKED_RAW, METSOVARY_BLOCKED_RAW},
+    {REARRANGE, PACKED, METSOVARY_PACKED_FACTOR, METSOVARY_BLOCKED_FACTOR},
+    {REARRANGE, BLOCKED, METSOVARY_BLOCKED_RAW, METSOVARY_PACKED_RAW},
+    {REARRANGE, BLOCKED, METSOVARY_BLOCKED_FACTOR, METSOVARY_PACKED_FACTOR},
+    {FACTOR, PACKED, METSOVARY_PACKED_RAW, METSOVARY_PACKED_FACTOR},
+    {FACTOR, BLOCKED, METSOVARY_BLOCKED_RAW, METSOVARY_BLOCKED_FACTOR},
+    {SOLVE, PACKED, METSOVARY_PACKED_FACTOR, METSOVARY_PACKED_FACTOR},
+    {SOLVE, BLOCKED, METSOVARY_BLOCKED_FACTOR, METSOVARY_BLOCKED_FACTOR},
+};
+
+/* NULL where the state does not suit the call */
+static const state_row *row_of(task t) {
+    for (size_t k = 0; k < sizeof state_rows / sizeof *state_rows; k++) {
+        const state_row *row = &state_rows[k];
+        if (row->operation == t.operation && row->layout == t.layout && row->wanted == t.shape.state) return row;
+    }
+    return NULL;
+}
+
 /* ---- rules ---- */
 
-static metsovary_result answer(uint64_t code, uint64_t where, double value) {
-    metsovary_result r = {code, where, value, false};
+static metsovary_result answer(task t, uint64_t code, uint64_t where, double value) {
+    metsovary_result r = {code, where, value, false, t.shape};
+    if (code == 0) r.shape.state = row_of(t)->given;
+    if (code == 10 || code == 11 || code == 16) r.shape.state = METSOVARY_SPENT;
     return r;
 }
 
-static size_t block_work(metsovary_shape shape) {
-    return shape.order * (shape.order < shape.block ? shape.order : shape.block);
+static size_t needed_work(task t) {
+    bool by_columns = t.operation == SOLVE || (t.operation == FACTOR && t.layout == PACKED);
+    return by_columns ? t.shape.order : needed(t.shape.order, t.shape.block);
 }
 
-static uint64_t sizes(bool by_blocks, size_t needed, metsovary_shape shape, size_t length, size_t work) {
-    if (shape.order > 4000) return 1;
-    if (by_blocks && (shape.block == 0 || shape.block > 200)) return 2;
-    if (length != shape.order * (shape.order + 1) / 2) return 3;
-    if (work < needed) return 4;
+static uint64_t check_call(task t, size_t length, size_t work) {
+    size_t n = t.shape.order, b = t.shape.block;
+    if (n > 4000) return 1;
+    if ((t.operation == REARRANGE || t.layout == BLOCKED) && (b == 0 || b > 200)) return 2;
+    if (!row_of(t)) return 15;
+    if (length != triangle(n)) return 3;
+    if (work < needed_work(t)) return 4;
     return 0;
-}
-
-/* the needed work is asked for only where the order is in bounds */
-static uint64_t check_sizes(bool by_blocks, bool wide, metsovary_shape shape, size_t length, size_t work) {
-    size_t needed = shape.order > 4000 ? 0 : wide ? block_work(shape) : shape.order;
-    return sizes(by_blocks, needed, shape, length, work);
 }
 
 static size_t first_not_finite(const double *values, size_t length) {
@@ -46,22 +80,23 @@ static size_t first_not_finite(const double *values, size_t length) {
     return p;
 }
 
-static void clear(double *work, size_t needed) {
-    for (size_t k = 0; k < needed; k++) work[k] = 0.0;
+static void clear(double *work, size_t length) {
+    for (size_t k = 0; k < length; k++) work[k] = 0.0;
 }
 
 /* ---- rearranging: values move as bits ---- */
 
 metsovary_result reference_rearrange(enum layout from, enum layout to, metsovary_shape shape, double *matrix, size_t length, double *work, size_t work_length) {
-    uint64_t code = check_sizes(true, true, shape, length, work_length);
-    if (code) return answer(code, 0, 0.0);
+    task asked = {REARRANGE, from, shape};
+    uint64_t code = check_call(asked, length, work_length);
+    if (code) return answer(asked, code, 0, 0.0);
     uint64_t *old = malloc(length * 8 + 8);
     memcpy(old, matrix, length * 8);
     for (size_t j = 0; j < shape.order; j++)
         for (size_t i = j; i < shape.order; i++) memcpy(&matrix[place(to, shape, i, j)], &old[place(from, shape, i, j)], 8);
     free(old);
-    clear(work, block_work(shape));
-    return answer(0, 0, 0.0);
+    clear(work, needed_work(asked));
+    return answer(asked, 0, 0, 0.0);
 }
 
 /* ---- the arithmetic, on a full square array by columns ---- */
@@ -75,13 +110,14 @@ static double *load(enum layout layout, metsovary_shape shape, const double *mat
 }
 
 metsovary_result reference_factor(enum layout layout, metsovary_shape shape, double *matrix, size_t length, double *work, size_t work_length) {
+    task asked = {FACTOR, layout, shape};
     size_t n = shape.order;
-    uint64_t code = check_sizes(layout == BLOCKED, layout == BLOCKED, shape, length, work_length);
-    if (code) return answer(code, 0, 0.0);
+    uint64_t code = check_call(asked, length, work_length);
+    if (code) return answer(asked, code, 0, 0.0);
     size_t bad = first_not_finite(matrix, length);
-    if (bad < length) return answer(7, bad, 0.0);
+    if (bad < length) return answer(asked, 7, bad, 0.0);
     double *a = load(layout, shape, matrix);
-    metsovary_result r = answer(0, 0, 0.0);
+    metsovary_result r = answer(asked, 0, 0, 0.0);
     bool exact = true;
     size_t j;
     for (j = 0; j < n && r.code == 0; j++) {
@@ -95,18 +131,18 @@ metsovary_result reference_factor(enum layout layout, metsovary_shape shape, dou
         }
         double pivot = column[j];
         if (!(pivot > 0)) {
-            r = answer(10, j, pivot);
+            r = answer(asked, 10, j, pivot);
             break;
         }
         if (pivot <= entered * 0x1p-40) {
-            r = answer(16, j, pivot);
+            r = answer(asked, 16, j, pivot);
             break;
         }
         column[j] = sqrt(pivot);
         exact = exact && square_is(to_bits(column[j]), to_bits(pivot));
         for (size_t i = j + 1; i < n; i++) {
             column[i] = column[i] / column[j];
-            if (!isfinite(column[i])) r = answer(11, j, 0.0);
+            if (!isfinite(column[i])) r = answer(asked, 11, j, 0.0);
         }
         if (r.code) break;
     }
@@ -114,26 +150,27 @@ metsovary_result reference_factor(enum layout layout, metsovary_shape shape, dou
     for (size_t c = 0; c < finished; c++)
         for (size_t i = c; i < n; i++) matrix[place(layout, shape, i, c)] = a[i + c * n];
     free(a);
-    clear(work, layout == PACKED ? n : block_work(shape));
+    clear(work, needed_work(asked));
     r.exact = r.code == 0 && exact;
     return r;
 }
 
 metsovary_result reference_solve(enum layout layout, metsovary_shape shape, uint64_t m, const double *matrix, size_t length, double *x, size_t x_length, double *work, size_t work_length) {
+    task asked = {SOLVE, layout, shape};
     size_t n = shape.order;
-    uint64_t code = check_sizes(layout == BLOCKED, false, shape, length, work_length);
-    if (code) return answer(code, 0, 0.0);
-    if (m > 1000) return answer(5, 0, 0.0);
-    if (x_length != n * m) return answer(6, 0, 0.0);
+    uint64_t code = check_call(asked, length, work_length);
+    if (code) return answer(asked, code, 0, 0.0);
+    if (m > 1000) return answer(asked, 5, 0, 0.0);
+    if (x_length != n * m) return answer(asked, 6, 0, 0.0);
     size_t bad = first_not_finite(matrix, length);
-    if (bad < length) return answer(7, bad, 0.0);
+    if (bad < length) return answer(asked, 7, bad, 0.0);
     bad = first_not_finite(x, x_length);
-    if (bad < x_length) return answer(8, bad, 0.0);
+    if (bad < x_length) return answer(asked, 8, bad, 0.0);
     for (size_t j = 0; j < n; j++)
-        if (!(matrix[place(layout, shape, j, j)] > 0)) return answer(9, j, 0.0);
+        if (!(matrix[place(layout, shape, j, j)] > 0)) return answer(asked, 9, j, 0.0);
     double *l = load(layout, shape, matrix);
     double *y = malloc((n + 1) * sizeof *y);
-    metsovary_result r = answer(0, 0, 0.0);
+    metsovary_result r = answer(asked, 0, 0, 0.0);
     for (size_t q = 0; q < m && r.code == 0; q++) {
         bool finite = true;
         for (size_t i = 0; i < n; i++) {
@@ -155,11 +192,11 @@ metsovary_result reference_solve(enum layout layout, metsovary_shape shape, uint
             finite = finite && isfinite(y[i]);
         }
         if (finite) memcpy(x + q * n, y, n * sizeof *y);
-        else r = answer(12, q, 0.0);
+        else r = answer(asked, 12, q, 0.0);
     }
     free(y);
     free(l);
-    clear(work, n);
+    clear(work, needed_work(asked));
     return r;
 }
 
@@ -271,15 +308,28 @@ int finish(void) {
 
 /* ---- comparing a call of the engine with the reference ---- */
 
-bool same_result(metsovary_result a, metsovary_result b) {
+bool same_shape(metsovary_shape a, metsovary_shape b) { return a.order == b.order && a.block == b.block && a.state == b.state; }
+
+bool same_answer(metsovary_result a, metsovary_result b) {
     return a.code == b.code && a.place == b.place && to_bits(a.value) == to_bits(b.value) && a.exact == b.exact;
 }
 
+bool same_result(metsovary_result a, metsovary_result b) { return same_answer(a, b) && same_shape(a.shape, b.shape); }
+
+bool expect_result(const char *what, metsovary_shape handed, metsovary_result got, metsovary_result wanted) {
+    typedef unsigned long long shown;
+    metsovary_shape g = got.shape, w = wanted.shape;
+    return expect(same_result(got, wanted),
+        "%s n %llu b %llu state %llu: %llu %llu %016llx exact %d shape %llu %llu %llu, wanted %llu %llu %016llx exact %d shape %llu %llu %llu",
+        what, (shown)handed.order, (shown)handed.block, (shown)handed.state,
+        (shown)got.code, (shown)got.place, (shown)to_bits(got.value), got.exact, (shown)g.order, (shown)g.block, (shown)g.state,
+        (shown)wanted.code, (shown)wanted.place, (shown)to_bits(wanted.value), wanted.exact, (shown)w.order, (shown)w.block, (shown)w.state);
+}
+
 static metsovary_result compared(const char *what, metsovary_shape shape, metsovary_result got, metsovary_result wanted, bool memories) {
-    expect(same_result(got, wanted), "%s n %llu b %llu: %llu %llu %016llx exact %d, wanted %llu %llu %016llx exact %d", what, (unsigned long long)shape.order,
-        (unsigned long long)shape.block, (unsigned long long)got.code, (unsigned long long)got.place, (unsigned long long)to_bits(got.value), got.exact,
-        (unsigned long long)wanted.code, (unsigned long long)wanted.place, (unsigned long long)to_bits(wanted.value), wanted.exact);
-    expect(memories, "%s n %llu b %llu: memory differs (code %llu)", what, (unsigned long long)shape.order, (unsigned long long)shape.block, (unsigned long long)wanted.code);
+    expect_result(what, shape, got, wanted);
+    expect(memories, "%s n %llu b %llu state %llu: memory differs (code %llu)", what, (unsigned long long)shape.order, (unsigned long long)shape.block,
+        (unsigned long long)shape.state, (unsigned long long)wanted.code);
     return got;
 }
 

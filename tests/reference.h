@@ -13,6 +13,8 @@ enum layout { PACKED, BLOCKED };
 
 /* ---- document 01's places and rules ---- */
 
+size_t triangle(size_t n);          /* values of a matrix */
+size_t needed(size_t n, size_t b);  /* values of work memory of a rearranger and of the blocked factor; of the other calls they are n */
 size_t place(enum layout, metsovary_shape, size_t i, size_t j);
 metsovary_result reference_rearrange(enum layout from, enum layout to, metsovary_shape, double *matrix, size_t, double *work, size_t);
 metsovary_result reference_factor(enum layout, metsovary_shape, double *matrix, size_t, double *work, size_t);
@@ -42,7 +44,10 @@ void group(const char *name);       /* ends the group before it: a group with no
 bool expect(bool ok, const char *format, ...);
 int finish(void);                   /* prints 'N passed, M failed'; the exit status */
 
+bool same_shape(metsovary_shape, metsovary_shape);
+bool same_answer(metsovary_result, metsovary_result);   /* all but the shape */
 bool same_result(metsovary_result, metsovary_result);
+bool expect_result(const char *what, metsovary_shape handed, metsovary_result got, metsovary_result wanted);
 
 /* Runs a call of the engine and of the reference on copies of the same memory and compares results and all memory. */
 typedef metsovary_result (*matrix_call)(metsovary_shape, double *, size_t, double *, size_t);

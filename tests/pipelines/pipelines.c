@@ -3,15 +3,11 @@
 
 #include <math.h>
 
-static size_t triangle(size_t n) { return n * (n + 1) / 2; }
-
-static size_t needed(size_t n, size_t b) { return n * (n < b ? n : b); }
-
 enum { KINDS = 7 };
 
 /* a packed matrix: definite (kind 0), or with a small, a negative or an overflowing part somewhere, or with columns that nearly depend on each other */
 static void make(memory a, size_t n, unsigned kind) {
-    metsovary_shape shape = {n, 1};
+    metsovary_shape shape = {n, 1, METSOVARY_PACKED_RAW};
     for (size_t j = 0; j < n; j++)
         for (size_t i = j; i < n; i++) {
             double x = random_unit();
@@ -32,38 +28,43 @@ static void fill_right_sides(memory x, unsigned kind) {
     if (x.length && kind && random_bits() % 30 == 0) x.values[random_bits() % x.length] = any_nan();
 }
 
-/* Both pipelines on memories of their own, from a packed matrix and m right-hand sides, which are freed; each call is compared with the reference as well where
- * that is wanted. The factors' result. */
+/* Both pipelines on memories of their own, from a packed matrix and m right-hand sides, which are freed; each call gets the shape that the one before it on that
+ * memory returned, and is compared with the reference as well where that is wanted. The plain factor's result. */
 static metsovary_result both(metsovary_shape shape, size_t m, memory a, memory x, bool with_reference) {
     size_t n = shape.order, b = shape.block;
     memory w = memory_new(n), v = memory_new(needed(n, b) + 3);
     fill_any(w);
     fill_any(v);
     memory c = memory_copy(a), z = memory_copy(x);
-    metsovary_result f, s = {0}, g, t = {0};
+    metsovary_result f, s = {0}, there, g, t = {0}, back = {0};
     if (with_reference) {
         f = compare_factor(PACKED, shape, a, w);
-        if (f.code == 0) s = compare_solve(PACKED, shape, m, a, x, w);
-        compare_rearrange(PACKED, BLOCKED, shape, c, v);
-        g = compare_factor(BLOCKED, shape, c, v);
+        if (f.code == 0) s = compare_solve(PACKED, f.shape, m, a, x, w);
+        there = compare_rearrange(PACKED, BLOCKED, shape, c, v);
+        g = compare_factor(BLOCKED, there.shape, c, v);
         if (g.code == 0) {
-            t = compare_solve(BLOCKED, shape, m, c, z, v);
-            compare_rearrange(BLOCKED, PACKED, shape, c, v);
+            t = compare_solve(BLOCKED, g.shape, m, c, z, v);
+            back = compare_rearrange(BLOCKED, PACKED, t.shape, c, v);
         }
     } else {
         f = metsovary_factor_plain(shape, a.values, a.length, w.values, w.length);
-        if (f.code == 0) s = metsovary_solve_plain(shape, m, a.values, a.length, x.values, x.length, w.values, w.length);
-        metsovary_packed_to_blocked(shape, c.values, c.length, v.values, v.length);
-        g = metsovary_factor_blocked(shape, c.values, c.length, v.values, v.length);
+        if (f.code == 0) s = metsovary_solve_plain(f.shape, m, a.values, a.length, x.values, x.length, w.values, w.length);
+        there = metsovary_packed_to_blocked(shape, c.values, c.length, v.values, v.length);
+        g = metsovary_factor_blocked(there.shape, c.values, c.length, v.values, v.length);
         if (g.code == 0) {
-            t = metsovary_solve_blocked(shape, m, c.values, c.length, z.values, z.length, v.values, v.length);
-            metsovary_blocked_to_packed(shape, c.values, c.length, v.values, v.length);
+            t = metsovary_solve_blocked(g.shape, m, c.values, c.length, z.values, z.length, v.values, v.length);
+            back = metsovary_blocked_to_packed(t.shape, c.values, c.length, v.values, v.length);
         }
     }
-    expect(same_result(f, g), "n %zu b %zu: the factors' results differ: %llu %llu exact %d, %llu %llu exact %d", n, b, (unsigned long long)f.code, (unsigned long long)f.place, f.exact,
+    expect(same_answer(f, g), "n %zu b %zu: the factors' results differ: %llu %llu exact %d, %llu %llu exact %d", n, b, (unsigned long long)f.code, (unsigned long long)f.place, f.exact,
         (unsigned long long)g.code, (unsigned long long)g.place, g.exact);
+    metsovary_shape last = f.code ? f.shape : s.shape, blocked_last = g.code ? g.shape : back.shape;
+    metsovary_shape wanted = {n, b, f.code ? METSOVARY_SPENT : METSOVARY_PACKED_FACTOR};
+    expect(same_shape(last, wanted) && same_shape(blocked_last, wanted), "n %zu b %zu: the pipelines end in states %llu and %llu after code %llu", n, b,
+        (unsigned long long)last.state, (unsigned long long)blocked_last.state, (unsigned long long)f.code);
     if (f.code == 0) {
-        expect(same_result(s, t), "n %zu b %zu: the solvers' results differ", n, b);
+        expect(same_answer(s, t), "n %zu b %zu: the solvers' results differ", n, b);
+        expect(back.code == 0, "n %zu b %zu: no way back after the solver's code %llu", n, b, (unsigned long long)t.code);
         expect(memory_same(x, z), "n %zu b %zu: the right-hand sides differ", n, b);
         expect(memory_same(a, c), "n %zu b %zu: the matrices differ", n, b);
     }
@@ -80,7 +81,7 @@ static void both_of_kind(size_t n, size_t b, size_t m, unsigned kind, bool with_
     memory a = memory_new(triangle(n)), x = memory_new(n * m);
     make(a, n, kind);
     fill_right_sides(x, kind);
-    metsovary_result f = both((metsovary_shape){n, b}, m, a, x, with_reference);
+    metsovary_result f = both((metsovary_shape){n, b, METSOVARY_PACKED_RAW}, m, a, x, with_reference);
     expect(kind || f.code == 0, "n %zu b %zu: a definite matrix is refused: %llu", n, b, (unsigned long long)f.code);
 }
 
@@ -93,7 +94,7 @@ static void two_of(size_t n, size_t b) {
 /* A = L·Lᵀ of whole numbers, so that every root is exact. A column with zeros below its diagonal may have one more than a square there: then its root alone is not,
  * and so the factor is not. */
 static void whole_numbers(size_t n, size_t b, size_t inexact_column, bool with_reference) {
-    metsovary_shape shape = {n, b};
+    metsovary_shape shape = {n, b, METSOVARY_PACKED_RAW};
     memory l = memory_new(triangle(n)), a = memory_new(triangle(n));
     for (size_t j = 0; j < n; j++)
         for (size_t i = j; i < n; i++) l.values[place(PACKED, shape, i, j)] = i == j ? 1.0 + (double)(random_bits() % 9) : j == inexact_column ? 0.0 : (double)(random_bits() % 17) - 8;
@@ -118,7 +119,7 @@ static size_t block_length(size_t k) { return k < 40 ? k + 1 : larger[k - 40]; }
 /* 10 or 11 in this column of a matrix that is definite without it, all of whose values take part. Under 11 an infinity stands
  * before the other columns of its block column. */
 static void refused_factor(size_t n, size_t b, uint64_t code, size_t column) {
-    metsovary_shape shape = {n, b};
+    metsovary_shape shape = {n, b, METSOVARY_PACKED_RAW};
     memory a = memory_new(triangle(n));
     make(a, n, 0);
     a.values[place(PACKED, shape, column, column)] = code == 10 ? -1.0 : ldexp(1, -1000);
@@ -133,7 +134,7 @@ static void refused_factor(size_t n, size_t b, uint64_t code, size_t column) {
 
 /* 12 in the second of three right-hand sides, by y or by x in this column */
 static void refused_solution(size_t n, size_t b, bool by_y, size_t column) {
-    metsovary_shape shape = {n, b};
+    metsovary_shape shape = {n, b, METSOVARY_BLOCKED_FACTOR};
     memory a = memory_new(triangle(n)), x = memory_new(3 * n), w = memory_new(n + 1);
     for (size_t k = 0; k < a.length; k++) a.values[k] = random_unit();
     for (size_t j = 0; j < n; j++) a.values[place(BLOCKED, shape, j, j)] = j == column ? ldexp(1, -200) : (double)n;
@@ -163,7 +164,7 @@ static void refused_columns(size_t b) {
 
 /* 10 in column p and 11 in column q of one matrix: the lower of the two decides */
 static void two_refusals(size_t n, size_t b, size_t p, size_t q) {
-    metsovary_shape shape = {n, b};
+    metsovary_shape shape = {n, b, METSOVARY_BLOCKED_RAW};
     memory a = memory_new(triangle(n)), v = memory_new(needed(n, b) + 1);
     for (size_t j = 0; j < n; j++)
         for (size_t i = j; i < n; i++) a.values[place(BLOCKED, shape, i, j)] = i == j ? 4.0 : 0.0;
@@ -186,7 +187,7 @@ static void two_refusals(size_t n, size_t b, size_t p, size_t q) {
 
 /* The pivot of this column, from which three products are subtracted, is 2^-40 of its diagonal value (neighbour 0), or the value next below (-1) or above (1). */
 static void at_bound(size_t n, size_t b, size_t column, int neighbour, int scale) {
-    metsovary_shape shape = {n, b};
+    metsovary_shape shape = {n, b, METSOVARY_PACKED_RAW};
     memory a = memory_new(triangle(n));
     for (size_t j = 0; j < n; j++) a.values[place(PACKED, shape, j, j)] = 1.0;
     /* 1 - (1 - 2^-40)^2 is 2^-39; then 2^-40 goes, or 2^-40 - 2^-92; then a little more than half a unit, or nothing */
@@ -215,7 +216,7 @@ static void subnormal_bound(size_t b) {
         a.values[0] = 1.0;
         a.values[1] = from_bits(rows[k].below);
         a.values[2] = from_bits(rows[k].diagonal);
-        metsovary_result r = both((metsovary_shape){2, b}, 0, a, memory_new(0), true);
+        metsovary_result r = both((metsovary_shape){2, b, METSOVARY_PACKED_RAW}, 0, a, memory_new(0), true);
         bool weak = rows[k].pivot <= rows[k].bound;
         expect(r.code == (weak ? 16 : 0) && to_bits(r.value) == (weak ? rows[k].pivot : 0), "b %zu: %llu units beside %llu: %llu %016llx", b, (unsigned long long)rows[k].pivot,
             (unsigned long long)rows[k].bound, (unsigned long long)r.code, (unsigned long long)to_bits(r.value));
@@ -225,7 +226,7 @@ static void subnormal_bound(size_t b) {
 /* A = L·Lᵀ of whole numbers, none of them 0, but for this column's diagonal value: the upper neighbour of the sum of the squares before it. Nothing is rounded, and
  * the difference of the two is the pivot. */
 static void weak_column(size_t n, size_t b, size_t column) {
-    metsovary_shape shape = {n, b};
+    metsovary_shape shape = {n, b, METSOVARY_PACKED_RAW};
     memory l = memory_new(triangle(n)), a = memory_new(triangle(n));
     for (size_t k = 0; k < l.length; k++) l.values[k] = 1.0 + (double)(random_bits() % 9);
     for (size_t j = 0; j < n; j++)
@@ -247,7 +248,7 @@ static void weak_column(size_t n, size_t b, size_t column) {
 /* A weak column p, whose pivot is 2^-52, and in column q 10, or 11 for an entry of this row: the lower of the two decides, and in one column 10 before 16 and 16
  * before 11. */
 static void weak_and_refused(size_t n, size_t b, size_t p, uint64_t code, size_t q, size_t row) {
-    metsovary_shape shape = {n, b};
+    metsovary_shape shape = {n, b, METSOVARY_PACKED_RAW};
     memory a = memory_new(triangle(n));
     for (size_t j = 0; j < n; j++) a.values[place(PACKED, shape, j, j)] = 4.0;
     a.values[place(PACKED, shape, p, 0)] = 2.0;
@@ -263,7 +264,7 @@ static void weak_and_refused(size_t n, size_t b, size_t p, uint64_t code, size_t
 }
 
 static void blocked_refusals(size_t n, size_t b) {
-    metsovary_shape shape = {n, b};
+    metsovary_shape shape = {n, b, METSOVARY_BLOCKED_RAW}, factor = {n, b, METSOVARY_BLOCKED_FACTOR};
     size_t m = 3;
     memory v = memory_new(needed(n, b));
     for (size_t p = 0; p < triangle(n); p++) { /* 7 and 9 */
@@ -272,9 +273,9 @@ static void blocked_refusals(size_t n, size_t b) {
         a.values[p] = p % 2 ? INFINITY : any_nan();
         fill_any(v);
         compare_factor(BLOCKED, shape, a, v);
-        compare_solve(BLOCKED, shape, m, a, x, v);
+        compare_solve(BLOCKED, factor, m, a, x, v);
         a.values[p] = -1;
-        compare_solve(BLOCKED, shape, m, a, x, v);
+        compare_solve(BLOCKED, factor, m, a, x, v);
         memory_free(a);
         memory_free(x);
     }
@@ -282,10 +283,10 @@ static void blocked_refusals(size_t n, size_t b) {
         memory a = memory_new(triangle(n)), x = memory_new(n * m);
         for (size_t j = 0; j < n; j++) a.values[place(BLOCKED, shape, j, j)] = ldexp(1, -200);
         x.values[p] = any_nan();
-        metsovary_result r = compare_solve(BLOCKED, shape, m, a, x, v);
+        metsovary_result r = compare_solve(BLOCKED, factor, m, a, x, v);
         expect(r.code == 8 && r.place == p, "8 at %zu", p);
         x.values[p] = p % 2 ? ldexp(1, 1000) : ldexp(1, 700);
-        r = compare_solve(BLOCKED, shape, m, a, x, v);
+        r = compare_solve(BLOCKED, factor, m, a, x, v);
         expect(r.code == 12 && r.place == p / n, "12 in right-hand side %zu: %llu %llu", p / n, (unsigned long long)r.code, (unsigned long long)r.place);
         memory_free(a);
         memory_free(x);
@@ -294,8 +295,8 @@ static void blocked_refusals(size_t n, size_t b) {
     for (size_t extra = 0; extra < 9; extra++) { /* 2 to 6 */
         memory a = memory_new(triangle(n) + extra % 3 - 1), x = memory_new(n * m + extra % 2), w = memory_new(extra / 3 == 0 ? n - 1 : extra / 3 == 1 ? needed(n, b) - 1 : needed(n, b));
         compare_factor(BLOCKED, shape, a, w);
-        compare_solve(BLOCKED, shape, m, a, x, w);
-        compare_solve(BLOCKED, shape, 1001, a, x, w);
+        compare_solve(BLOCKED, factor, m, a, x, w);
+        compare_solve(BLOCKED, factor, 1001, a, x, w);
         memory_free(a);
         memory_free(x);
         memory_free(w);
@@ -368,22 +369,24 @@ int main(void) {
     blocked_refusals(19, 16);
     group("block lengths and orders at their bounds");
     memory none = memory_new(0);
-    metsovary_shape wrong[] = {{4001, 1}, {UINT64_MAX, UINT64_MAX}, {0, 0}, {0, 201}, {0, 200}, {0, UINT64_MAX}};
+    metsovary_shape wrong[] = {{4001, 1, 0}, {UINT64_MAX, UINT64_MAX, 0}, {0, 0, 0}, {0, 201, 0}, {0, 200, 0}, {0, UINT64_MAX, 0}};
     for (size_t k = 0; k < 6; k++) {
+        wrong[k].state = METSOVARY_BLOCKED_RAW;
         compare_factor(BLOCKED, wrong[k], none, none);
+        wrong[k].state = METSOVARY_BLOCKED_FACTOR;
         compare_solve(BLOCKED, wrong[k], 1000, none, none, none);
         compare_solve(BLOCKED, wrong[k], UINT64_MAX, none, none, none);
     }
     memory_free(none);
     group("order 0 with null pointers");
-    metsovary_shape empty = {0, 64};
-    metsovary_result success = {0}, all_exact = {0, 0, 0.0, true};
-    expect(same_result(metsovary_packed_to_blocked(empty, NULL, 0, NULL, 0), success), "packed to blocked");
-    expect(same_result(metsovary_blocked_to_packed(empty, NULL, 0, NULL, 0), success), "blocked to packed");
-    expect(same_result(metsovary_factor_plain(empty, NULL, 0, NULL, 0), all_exact), "plain factor");
-    expect(same_result(metsovary_factor_blocked(empty, NULL, 0, NULL, 0), all_exact), "blocked factor");
-    expect(same_result(metsovary_solve_plain(empty, 3, NULL, 0, NULL, 0, NULL, 0), success), "plain solver");
-    expect(same_result(metsovary_solve_blocked(empty, 3, NULL, 0, NULL, 0, NULL, 0), success), "blocked solver");
+    metsovary_shape raw = {0, 64, METSOVARY_PACKED_RAW}, blocked_raw = {0, 64, METSOVARY_BLOCKED_RAW};
+    metsovary_shape factor = {0, 64, METSOVARY_PACKED_FACTOR}, blocked_factor = {0, 64, METSOVARY_BLOCKED_FACTOR};
+    expect(same_result(metsovary_packed_to_blocked(raw, NULL, 0, NULL, 0), (metsovary_result){.shape = blocked_raw}), "packed to blocked");
+    expect(same_result(metsovary_blocked_to_packed(blocked_raw, NULL, 0, NULL, 0), (metsovary_result){.shape = raw}), "blocked to packed");
+    expect(same_result(metsovary_factor_plain(raw, NULL, 0, NULL, 0), (metsovary_result){.exact = true, .shape = factor}), "plain factor");
+    expect(same_result(metsovary_factor_blocked(blocked_raw, NULL, 0, NULL, 0), (metsovary_result){.exact = true, .shape = blocked_factor}), "blocked factor");
+    expect(same_result(metsovary_solve_plain(factor, 3, NULL, 0, NULL, 0, NULL, 0), (metsovary_result){.shape = factor}), "plain solver");
+    expect(same_result(metsovary_solve_blocked(blocked_factor, 3, NULL, 0, NULL, 0, NULL, 0), (metsovary_result){.shape = blocked_factor}), "blocked solver");
     group("both pipelines, n 4000, b 3, 64 and 200");
     both_of_kind(4000, 3, 1, 0, false);
     both_of_kind(4000, 64, 2, 0, false);

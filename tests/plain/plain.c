@@ -3,13 +3,11 @@
 
 #include <math.h>
 
-static size_t triangle(size_t n) { return n * (n + 1) / 2; }
-
 enum kind { DEFINITE, NEARLY_DEPENDENT, INDEFINITE, SUBNORMAL, OVERFLOWING, SIGNED_ZEROS, KINDS };
 
 /* a packed matrix of the kind; every value is finite */
 static void make(memory a, size_t n, enum kind kind) {
-    metsovary_shape shape = {n, 1};
+    metsovary_shape shape = {n, 1, METSOVARY_PACKED_RAW};
     for (size_t j = 0; j < n; j++)
         for (size_t i = j; i < n; i++) {
             double x = random_unit();
@@ -23,22 +21,28 @@ static void make(memory a, size_t n, enum kind kind) {
         }
 }
 
+/* the solver is handed what a refused factor left too: in its own state, then as if it were a factor */
 static void factor_and_solve(size_t n, size_t m, enum kind kind) {
-    metsovary_shape shape = {n, random_bits()};
+    metsovary_shape shape = {n, random_bits(), METSOVARY_PACKED_RAW};
     memory a = memory_new(triangle(n)), x = memory_new(n * m), work = memory_new(n + 2);
     make(a, n, kind);
     for (size_t k = 0; k < x.length; k++) x.values[k] = kind == OVERFLOWING ? ldexp(random_unit(), (int)(random_bits() % 2000) - 1000) : random_unit();
     fill_any(work);
-    compare_factor(PACKED, shape, a, work);
+    metsovary_result f = compare_factor(PACKED, shape, a, work);
     fill_any(work);
-    compare_solve(PACKED, shape, m, a, x, work);
+    metsovary_result s = compare_solve(PACKED, f.shape, m, a, x, work);
+    if (f.code) {
+        expect(s.code == 15, "n %zu: code %llu after a refused factor", n, (unsigned long long)s.code);
+        s.shape.state = METSOVARY_PACKED_FACTOR;
+        compare_solve(PACKED, s.shape, m, a, x, work);
+    }
     memory_free(a);
     memory_free(x);
     memory_free(work);
 }
 
 static void all_refusals(size_t n) {
-    metsovary_shape shape = {n, 1};
+    metsovary_shape shape = {n, 1, METSOVARY_PACKED_RAW}, factor = {n, 1, METSOVARY_PACKED_FACTOR};
     size_t m = 3;
     memory work = memory_new(n);
     for (size_t k = 0; k < 3; k++) {
@@ -51,7 +55,7 @@ static void all_refusals(size_t n) {
             fill_any(work);
             metsovary_result r = compare_factor(PACKED, shape, a, work);
             expect(r.code == 7 && r.place == p, "7 at %zu", p);
-            compare_solve(PACKED, shape, m, a, x, work);
+            compare_solve(PACKED, factor, m, a, x, work);
             memory_free(a);
             memory_free(x);
         }
@@ -59,7 +63,7 @@ static void all_refusals(size_t n) {
             memory a = memory_new(triangle(n)), x = memory_new(n * m);
             make(a, n, DEFINITE);
             x.values[p] = bad;
-            metsovary_result r = compare_solve(PACKED, shape, m, a, x, work);
+            metsovary_result r = compare_solve(PACKED, factor, m, a, x, work);
             expect(r.code == 8 && r.place == p, "8 at %zu", p);
             memory_free(a);
             memory_free(x);
@@ -86,7 +90,7 @@ static void all_refusals(size_t n) {
             a.values[place(PACKED, shape, j, j)] = low[k];
             if (j + 1 < n) a.values[place(PACKED, shape, n - 1, n - 1)] = -7;
             fill_any(work);
-            metsovary_result r = compare_solve(PACKED, shape, m, a, x, work);
+            metsovary_result r = compare_solve(PACKED, factor, m, a, x, work);
             expect(r.code == 9 && r.place == j, "9 at %zu", j);
             r = compare_factor(PACKED, shape, a, work);
             expect(r.code == 10 && r.place == j, "10 at %zu", j);
@@ -117,7 +121,7 @@ static void all_refusals(size_t n) {
             for (size_t k = 0; k < tiny; k++) a.values[place(PACKED, shape, tiny, k)] = 0;
             for (size_t k = 0; k < x.length; k++) x.values[k] = ldexp(random_unit(), k / n == q ? 500 : -500);
             fill_any(work);
-            metsovary_result r = compare_solve(PACKED, shape, m, a, x, work);
+            metsovary_result r = compare_solve(PACKED, factor, m, a, x, work);
             expect(r.code == 12 && r.place == q, "12 at %zu: %llu %llu", q, (unsigned long long)r.code, (unsigned long long)r.place);
             memory_free(a);
             memory_free(x);
@@ -127,7 +131,7 @@ static void all_refusals(size_t n) {
 }
 
 static void lengths(void) {
-    metsovary_shape shape = {5, 0};
+    metsovary_shape shape = {5, 0, METSOVARY_PACKED_RAW}, factor = {5, 0, METSOVARY_PACKED_FACTOR};
     for (size_t a_length = 14; a_length <= 16; a_length++)
         for (size_t w_length = 4; w_length <= 6; w_length++)
             for (size_t x_length = 9; x_length <= 11; x_length++)
@@ -137,15 +141,17 @@ static void lengths(void) {
                     fill_any(w);
                     fill_any(x);
                     compare_factor(PACKED, shape, a, w);
-                    compare_solve(PACKED, shape, m == 1 ? 2 : m, a, x, w);
+                    compare_solve(PACKED, factor, m == 1 ? 2 : m, a, x, w);
                     memory_free(a);
                     memory_free(w);
                     memory_free(x);
                 }
     memory none = memory_new(0);
-    metsovary_shape wrong[] = {{4001, 0}, {UINT64_MAX, 1}, {(uint64_t)1 << 32, 1}, {0, 0}, {0, UINT64_MAX}};
+    metsovary_shape wrong[] = {{4001, 0, 0}, {UINT64_MAX, 1, 0}, {(uint64_t)1 << 32, 1, 0}, {0, 0, 0}, {0, UINT64_MAX, 0}};
     for (size_t k = 0; k < 5; k++) {
+        wrong[k].state = METSOVARY_PACKED_RAW;
         compare_factor(PACKED, wrong[k], none, none);
+        wrong[k].state = METSOVARY_PACKED_FACTOR;
         compare_solve(PACKED, wrong[k], 1000, none, none, none);
         compare_solve(PACKED, wrong[k], 1001, none, none, none);
         compare_solve(PACKED, wrong[k], UINT64_MAX, none, none, none);

@@ -1,34 +1,40 @@
 /* The rearrangers against document 01's formulas: every kind of value, every small shape, the largest, wrong lengths and wrong shapes. */
 #include "../reference.h"
 
-static size_t triangle(size_t n) { return n * (n + 1) / 2; }
+/* a raw matrix and a factor, in the order of the layouts */
+static const uint64_t states[2][2] = {{METSOVARY_PACKED_RAW, METSOVARY_BLOCKED_RAW}, {METSOVARY_PACKED_FACTOR, METSOVARY_BLOCKED_FACTOR}};
 
-static size_t needed(size_t n, size_t b) { return n * (n < b ? n : b); }
-
-/* there and back with one value of work to spare; the way back restores every bit */
-static void there_and_back(size_t n, size_t b) {
-    metsovary_shape shape = {n, b};
+/* there and back with one value of work to spare; the way back restores every bit, and the shape */
+static void there_and_back_as(const uint64_t *state, size_t n, size_t b) {
+    metsovary_shape packed = {n, b, state[PACKED]}, blocked = {n, b, state[BLOCKED]};
     memory matrix = memory_new(triangle(n)), work = memory_new(needed(n, b) + 1);
     fill_any(matrix);
     fill_any(work);
     memory before = memory_copy(matrix);
-    compare_rearrange(PACKED, BLOCKED, shape, matrix, work);
+    metsovary_result there = compare_rearrange(PACKED, BLOCKED, packed, matrix, work);
+    expect_result("there", packed, there, (metsovary_result){.shape = blocked});
     fill_any(work);
-    compare_rearrange(BLOCKED, PACKED, shape, matrix, work);
+    metsovary_result back = compare_rearrange(BLOCKED, PACKED, there.shape, matrix, work);
+    expect_result("back", there.shape, back, (metsovary_result){.shape = packed});
     expect(memory_same(before, matrix), "n %zu b %zu: the way back does not restore the matrix", n, b);
     memory_free(before);
     memory_free(matrix);
     memory_free(work);
 }
 
+static void there_and_back(size_t n, size_t b) {
+    for (size_t k = 0; k < 2; k++) there_and_back_as(states[k], n, b);
+}
+
 static void refused(size_t matrix_length, size_t work_length, uint64_t n, uint64_t b, uint64_t code) {
-    metsovary_shape shape = {n, b};
     memory matrix = memory_new(matrix_length), work = memory_new(work_length);
     fill_any(matrix);
     fill_any(work);
-    metsovary_result there = compare_rearrange(PACKED, BLOCKED, shape, matrix, work);
-    metsovary_result back = compare_rearrange(BLOCKED, PACKED, shape, matrix, work);
-    expect(there.code == code && back.code == code, "n %llu b %llu: code %llu wanted", (unsigned long long)n, (unsigned long long)b, (unsigned long long)code);
+    for (size_t k = 0; k < 2; k++) {
+        metsovary_result there = compare_rearrange(PACKED, BLOCKED, (metsovary_shape){n, b, states[k][PACKED]}, matrix, work);
+        metsovary_result back = compare_rearrange(BLOCKED, PACKED, (metsovary_shape){n, b, states[k][BLOCKED]}, matrix, work);
+        expect(there.code == code && back.code == code, "n %llu b %llu: code %llu wanted", (unsigned long long)n, (unsigned long long)b, (unsigned long long)code);
+    }
     memory_free(matrix);
     memory_free(work);
 }

@@ -16,15 +16,14 @@ use Rattle.calls.specs.declared.Judgement.{Judgement}
 use Rattle.calls.specs.declared.Layout.the-variants.{Blocked}
 use Rattle.calls.specs.Sequences.{every}
 use Rattle.calls.specs.Triangles.{Triangle, height, load, store}
-use Rattle.calls.specs.Arithmetic.{cholesky}
 use Rattle.calls.specs.Refusals.{success, accepted, lowestRefusal}
-use Rattle.calls.specs.Calls.{judgeColumn, exactColumn, finished, columnsVerdict, columnsExact, columnsJudged}
+use Rattle.calls.specs.Calls.{judgeColumn, exactColumn, finished, columnsVerdict, columnsExact}
 use Rattle.calls.proofs.Triangles.{entry-load, memory-ext, length-store, store-same, store-other}
 use Rattle.calls.proofs.Columns.{columns, entry-kept, shaped-columns}
 use Rattle.calls.proofs.Refusals.{lowest-accepted}
 use Rattle.calls.proofs.Judging.{lowest-all, judged-stays}
 use Rattle.blocked_factor.specs.BlockStages.{columnsTo}
-use Rattle.blocked_factor.specs.BlockSteps.{BlockAt, FactoredTo, BlockDone, Sized, BlocksDone}
+use Rattle.blocked_factor.specs.BlockSteps.{BlockAt, FactoredTo, BlockDone, Sized, BlocksDone, Factored}
 use Rattle.blocked_factor.proofs.BlockVerdicts.{judge-success, lowest-place}
 use Rattle.blocked_factor.proofs.EarlierBlocks.{inside-le}
 
@@ -154,10 +153,12 @@ module _
       ∙ sym (start .entries i j e (omega arith))
       ∙ sym (store-other (blockedPlace n b) n bij (columns n a k) k (shaped-columns n a k finished-le) m (omega arith) i j nan e (omega arith))
 
-  pub factored-matrix : (answer ≡ columnsJudged n a) × (m′ ≡ store (blockedPlace n b) (cholesky (height n) a k) m)
+  pub blocks-factored : Factored n b m answer m′
   unfolding columnsVerdict columnsExact
-  factored-matrix = (
-    done .judgement a start,
-    memory-ext (blockedPlace n b) n bij m′ (store (blockedPlace n b) (columns n a k) m) (done .kept ∙ size)
-        (length-store (blockedPlace n b) n bij (columns n a k) m ∙ size) (λ i j e. entry-done i j e (decLt j k)),
-  )
+  blocks-factored =
+      record {
+        result = done .judgement a start;
+        matrix =
+            memory-ext (blockedPlace n b) n bij m′ (store (blockedPlace n b) (columns n a k) m) (done .kept ∙ size)
+            (length-store (blockedPlace n b) n bij (columns n a k) m ∙ size) (λ i j e. entry-done i j e (decLt j k));
+      }

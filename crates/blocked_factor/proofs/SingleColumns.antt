@@ -1,5 +1,5 @@
--- With block length 1 the blocked factor is the plain one: blocked order is packed order, the needed work is the same, and so is the memory after a
--- refusal. Assumes nothing.
+-- With block length 1 the columns of the blocked factor are those of the plain one: blocked order is packed order, the needed work is the same, and so is the
+-- memory after a refusal. Assumes nothing.
 use Prim.Native.Nat.{ℕ, zero, suc, _≤_, _<_, min}
 use native.Mathlib.Nat.{mul-one}
 use native.Mathlib.Omega.{arith}
@@ -14,12 +14,14 @@ use Rattle.shape.specs.Layouts.{Entry}
 use Rattle.shape.proofs.Blocks.{block-of-one, blocked-place-one}
 use Rattle.shape.proofs.Bijections.{packed-bijection, blocked-bijection}
 use Rattle.calls.specs.declared.Verdict.{Verdict}
+use Rattle.calls.specs.declared.Judgement.{Judgement}
 use Rattle.calls.specs.declared.Layout.the-variants.{Packed, Blocked}
-use Rattle.calls.specs.Triangles.{Triangle, height, placeOf, load, store}
+use Rattle.calls.specs.Triangles.{Triangle, height, load, store}
 use Rattle.calls.specs.Arithmetic.{cholesky}
-use Rattle.calls.specs.Refusals.{accepted, rule2, rule4}
-use Rattle.calls.specs.Calls.{finished, columnsVerdict, factorChecks, factored, factorize}
-use Rattle.calls.proofs.CheckLaws.{factor-passed}
+use Rattle.calls.specs.Refusals.{accepted}
+use Rattle.calls.specs.Calls.{finished, columnsVerdict}
+use Rattle.plain_factor.specs.Steps as Plain
+use Rattle.blocked_factor.specs.BlockSteps.{Factored}
 use Rattle.calls.proofs.Columns.{shaped-columns}
 use Rattle.blocked_factor.proofs.BlockVerdicts.{lowest-place}
 use Rattle.calls.proofs.Triangles.{Shaped, load-one, length-store, store-same, store-other, memory-ext}
@@ -56,12 +58,7 @@ store-one n k t m shaped size =
 finished-one : (n : ℕ) (v : Verdict) → finished Blocked n 1 v ≡ finished Packed n 1 v
 finished-one n v = ap (λ q. cond (accepted v) n q) (block-of-one (v .place))
 
--- the checks
-checks-one : (n : ℕ) (m : List Float) (k : ℕ) → factorChecks Blocked n 1 m k ≡ factorChecks Packed n 1 m k
-unfolding factorChecks rule2 rule4
-checks-one n m k = rw (work-one n)
-
-module _ (n : ℕ) (m w : List Float) (size : length m ≡ triangle n) where
+module _ (n : ℕ) (m : List Float) (size : length m ≡ triangle n) where
   abbrev a : Triangle
   a = load (packedPlace n) (height n) n m
 
@@ -73,23 +70,17 @@ module _ (n : ℕ) (m w : List Float) (size : length m ≡ triangle n) where
       go true e = omega arith
       go false e = omega (arith, lowest-place n a n (columnsVerdict n a) refl e)
 
-  factored-one : factored Blocked n 1 m w ≡ factored Packed n 1 m w
-  unfolding factored placeOf
-  factored-one =
-      rw (
-        load-one n m,
-        finished-one n (columnsVerdict n a),
-        work-one n,
-        store-one n (finished Packed n 1 (columnsVerdict n a)) (cholesky (height n) a (finished Packed n 1 (columnsVerdict n a))) m
-            (shaped-columns n a (finished Packed n 1 (columnsVerdict n a)) finished-le) size,
-      )
-
-pub factorize-one : (n : ℕ) (m w : List Float) → factorize Blocked n 1 m w ≡ factorize Packed n 1 m w
-unfolding factorize
-factorize-one n m w = go (accepted (factorChecks Packed n 1 m (length w))) refl
-  where
-    go : (t : Bool) → accepted (factorChecks Packed n 1 m (length w)) ≡ t → factorize Blocked n 1 m w ≡ factorize Packed n 1 m w
-    go true e =
-        rw (checks-one n m (length w), e)
-        (factored-one n m w (factor-passed Packed n 1 m w (factorChecks Packed n 1 m (length w)) refl e .sizes .matrix))
-    go false e = rw (checks-one n m (length w), e)
+  pub factored-one : (r : Judgement) (m′ : List Float) → Plain.Factored n m r m′ → Factored n 1 m r m′
+  factored-one r m′ f =
+      let k : ℕ = finished Packed n 1 (columnsVerdict n a) in
+      record {
+        result = rw (load-one n m) (f .result);
+        matrix =
+            f .matrix
+            ∙ rw (
+              load-one n m,
+              finished-one n (r .verdict),
+              f .result,
+              store-one n k (cholesky (height n) a k) m (shaped-columns n a k finished-le) size,
+            );
+      }

@@ -9,10 +9,11 @@ use Rattle.shape.specs.Bounds.{maxOrder, maxBlock}
 use Rattle.shape.specs.Places.{triangle, blockOf, blockStart, width, blockedPlace, blockWork}
 use Rattle.shape.specs.Layouts.{Entry}
 use Rattle.calls.specs.declared.Judgement.{Judgement}
-use Rattle.calls.specs.Triangles.{Triangle, entry}
+use Rattle.calls.specs.Triangles.{Triangle, entry, height, load, store}
+use Rattle.calls.specs.Arithmetic.{cholesky}
 use Rattle.calls.specs.Refusals.{success, accepted, lowestRefusal}
 use Rattle.calls.specs.declared.Layout.the-variants.{Blocked}
-use Rattle.calls.specs.Calls.{judgeColumn, finished}
+use Rattle.calls.specs.Calls.{judgeColumn, columnsJudged, finished}
 use Rattle.blocked_factor.specs.BlockColumns.{rowStart}
 use Rattle.blocked_factor.specs.BlockStages.{factorEntry, columnsTo, Entered}
 
@@ -55,7 +56,7 @@ pub record BlockDone (n b c : ℕ) (before : Judgement) (m : List Float) (answer
   pub finished : accepted (answer .verdict) ≡ true → (a : Triangle) → FactoredTo n b a c m → FactoredTo n b a (c + width n b c) m′
   pub judged : BlockJudged n b c before m answer
 
--- a matrix of order n and work memory of the needed lengths
+-- a matrix of order n and work memory of the needed lengths, with a block length above 1
 pub record Sized (n b matrixLength workLength : ℕ) : Type 0 where
   pub order : n ≤ maxOrder
   pub block : 1 < b
@@ -68,3 +69,17 @@ pub record BlocksDone (n b : ℕ) (m : List Float) (answer : Judgement) (m′ : 
   pub kept : length m′ ≡ length m
   pub judgement : (a : Triangle) → FactoredTo n b a 0 m → answer ≡ columnsTo n a n
   pub columns : (a : Triangle) → FactoredTo n b a 0 m → FactoredTo n b a (finished Blocked n b (answer .verdict)) m′
+
+-- the same with any block length
+pub record Lent (n b matrixLength workLength : ℕ) : Type 0 where
+  pub order : n ≤ maxOrder
+  pub block : 1 ≤ b
+  pub blockHigh : b ≤ maxBlock
+  pub matrix : matrixLength ≡ triangle n
+  pub work : workLength ≡ blockWork n b
+
+-- all columns judged up to the first that is refused, and the block columns before its own written
+pub record Factored (n b : ℕ) (m : List Float) (r : Judgement) (m′ : List Float) : Type 0 where
+  pub result : r ≡ columnsJudged n (load (blockedPlace n b) (height n) n m)
+  pub matrix :
+      m′ ≡ store (blockedPlace n b) (cholesky (height n) (load (blockedPlace n b) (height n) n m) (finished Blocked n b (r .verdict))) m

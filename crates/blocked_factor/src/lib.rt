@@ -8,12 +8,13 @@ ghost use Rattle.shape.specs.Places.{width, blockWork};
 ghost use Rattle.calls.specs.Calls.{DoneAs, factorize};
 ghost use Rattle.blocked_factor.specs.BlockColumns.{rowStart, SameTo, ColumnDivided, rootOf, columnFinite, LowestOverflow};
 ghost use Rattle.blocked_factor.specs.BlockStages.{RowsFinished, DiagonalFinished, TriangleFinished, BelowFinished, ColumnsFinished, BlockColumnJudged, BlockColumnFactored};
-ghost use Rattle.blocked_factor.specs.BlockSteps.{BlockAt, BlockFactored, BlockDone, Sized, BlocksDone};
+ghost use Rattle.blocked_factor.specs.BlockSteps.{BlockAt, BlockFactored, BlockDone, Sized, BlocksDone, Lent, Factored};
 
 mod runs;
 mod update;
 
 use binary64::Pivot;
+use calls::Call;
 use calls::CallResult;
 use calls::Judgement;
 use calls::Layout;
@@ -379,19 +380,32 @@ fn factor_blocks_cleared(m: &mut [f64], work: &mut [f64], shape: Shape) -> Judge
     judged
 }
 
-// The blocked factor of memory in blocked order. With one column to a block that is packed order, and the plain factor does it.
-pub fn factor(shape: Shape, matrix: &mut [f64], work: &mut [f64]) -> CallResult
-    ensures { λ r.
-        ⌜ DoneAs (factorize Layout.Blocked (shape .order) (shape .block) (now (matrix .entry)) (now (work .entry))) r (now (matrix .exit))
-        (now (work .exit)) ⌝ }
+// With one column to a block, blocked order is packed order, and the plain factor does it.
+fn factor_cleared(m: &mut [f64], work: &mut [f64], shape: Shape) -> Judgement
+    requires { ⌜ Lent (shape .order) (shape .block) (length (now m)) (length (now work)) ⌝ }
+    ensures { λ r. ⌜ Factored (shape .order) (shape .block) (now (m .entry)) r (now (m .exit)) ⌝ }
+    ensures { λ _. ⌜ now (work .exit) ≡ replicate (blockWork (shape .order) (shape .block)) zero64 ⌝ }
 {
     if shape.block == 1 {
-        return plain_factor::factor(shape, matrix, work);
+        return plain_factor::factor_cleared(m, work, shape.order);
     }
+    factor_blocks_cleared(m, work, shape)
+}
+
+// The blocked factor of memory in blocked order.
+pub fn factor(shape: Shape, matrix: &mut [f64], work: &mut [f64]) -> CallResult
+    ensures { λ r.
+        ⌜ DoneAs (factorize Layout.Blocked shape (now (matrix .entry)) (now (work .entry))) r (now (matrix .exit)) (now (work .exit)) ⌝ }
+{
+    let call = Call::Factor(Layout::Blocked);
     let checks = checks::check_factor(Layout::Blocked, shape, matrix, work.len());
     if !calls::accepted(checks) {
-        return calls::result(checks);
+        return calls::result(call, shape, checks);
     }
     let needed = shape.block_work();
-    calls::judged_result(factor_blocks_cleared(matrix, &mut work[..needed], shape))
+    calls::judged_result(
+        call,
+        shape,
+        factor_cleared(matrix, &mut work[..needed], shape),
+    )
 }

@@ -13,6 +13,7 @@ use lib.Ieee.Bits.{is-true}
 use Rattle.binary64.specs.Kinds.{finite, positive, zero64}
 use Rattle.shape.specs.Bounds.{maxOrder, maxBlock, maxRhs}
 use Rattle.shape.specs.Places.{triangle, blockWork}
+use Rattle.shape.specs.declared.Shape.{Shape}
 use Rattle.shape.specs.Layouts.{Entry, Bijection}
 use Rattle.calls.specs.declared.Verdict.{Verdict}
 use Rattle.calls.specs.declared.CallResult.{CallResult}
@@ -21,19 +22,20 @@ use Rattle.calls.specs.declared.Layout.{Layout}
 use Rattle.calls.specs.declared.Layout.the-variants.{Packed, Blocked}
 use Rattle.calls.specs.Triangles.{Triangle, entry, placeOf, height, load, store}
 use Rattle.calls.specs.declared.Call.the-variants.{Rearranger, Factor, Solver}
+use Rattle.calls.specs.declared.states.State.{State}
+use Rattle.calls.specs.declared.states.State.the-variants.{Raw, Factored, Spent}
+use Rattle.calls.specs.States.{stateNumber, lookUp, next, suits}
 use Rattle.calls.specs.Refusals.{neededWork, success, accepted, refusal, refuseIf, firstRefusal, lowestRefusal, rule5, rule6, rule7, rule8, rule9}
-use Rattle.calls.specs.Calls.{Solved, resultOf, judgedResult, succeeded, clear, rearrange, moved, judgeColumn, columnsVerdict, columnsJudged, finished, factored, factorize, solverChecks, rhsVerdict, solutions, solved, solve}
-use Rattle.calls.specs.Pipelines.{Ended, plainPipeline, blockedPipeline, Start, PipelinesAgree}
+use Rattle.calls.specs.Calls.{Solved, stateAfter, resultOf, judgedResult, answer, succeeded, clear, rearrange, moved, judgeColumn, columnsVerdict, columnsJudged, finished, factored, factorize, solverChecks, rhsVerdict, solutions, solved, solve}
+use Rattle.calls.specs.Pipelines.{Ended, packedRaw, plainPipeline, blockedPipeline, Start, PipelinesAgree}
 use Rattle.calls.proofs.Sequences.{all-of}
 use Rattle.calls.proofs.Triangles.{Shaped, shaped-load, length-store, store-same, load-store, store-whole}
-use Rattle.calls.proofs.Refusals.{first-passes, lowest-same, lowest-accepted, finite-rule}
+use Rattle.calls.proofs.Refusals.{cond-both, first-passes, lowest-same, lowest-accepted, refuse-holds, none-holds, first-holds, lowest-holds, finite-rule}
 use Rattle.calls.proofs.Columns.{columns, shaped-columns, FiniteMatrix, finite-matrix, columns-finite}
+use Rattle.calls.proofs.StateLaws.{solver-keeps, state-spent, columns-spend, factor-state}
+use Rattle.calls.proofs.CheckLaws.{Keeps, finite-holds, low-keeps, rhs-keeps}
 use Rattle.calls.proofs.Checks.{Sizes, sizes-pass, rearranger-checks, factor-checks, rule5-passes, rule6-passes, length-clear}
 use Rattle.calls.proofs.Rearranging.{layout-bijection, length-moved, load-moved}
-
-cond-both : {A : Type 0} (P : A → Type 0) (c : Bool) (x y : A) → P x → P y → P (cond c x y)
-cond-both P true x y p q = p
-cond-both P false x y p q = q
 
 -- ---- free of any layout
 
@@ -43,27 +45,37 @@ diagonalRule n l = lowestRefusal (λ j. refuseIf (not (positive (entry l j j))) 
 freeChecks : ℕ → Triangle → List Float → Verdict
 freeChecks n l rhs = firstRefusal (rule8 rhs ∷ diagonalRule n l ∷ [])
 
-abbrev freeDone : ℕ → ℕ → Triangle → List Float → List Float → Solved
+-- a solver's verdict, and the memory that it leaves
+record Free : Type 0 where
+  verdict : Verdict
+  rhs : List Float
+  work : List Float
+
+abbrev freeDone : ℕ → ℕ → Triangle → List Float → List Float → Free
 freeDone n m l rhs work =
     let verdict = rhsVerdict n m l rhs in
-    record { result = resultOf verdict; rhs = solutions n l (cond (accepted verdict) m (verdict .place)) rhs; work = clear n work }
+    record { verdict = verdict; rhs = solutions n l (cond (accepted verdict) m (verdict .place)) rhs; work = clear n work }
 
-abbrev freeLeft : ℕ → Triangle → List Float → List Float → Solved
-freeLeft n l rhs work = record { result = resultOf (freeChecks n l rhs); rhs = rhs; work = work }
+abbrev freeLeft : ℕ → Triangle → List Float → List Float → Free
+freeLeft n l rhs work = record { verdict = freeChecks n l rhs; rhs = rhs; work = work }
 
-freeSolved : ℕ → ℕ → Triangle → List Float → List Float → Solved
+freeSolved : ℕ → ℕ → Triangle → List Float → List Float → Free
 freeSolved n m l rhs work = cond (accepted (freeChecks n l rhs)) (freeDone n m l rhs work) (freeLeft n l rhs work)
 
--- the work memory decides neither the result nor the right-hand sides, and keeps its length
+-- what a solver of a layout returns and leaves, of a shape
+abbrev solvedBy : Layout → Shape → Free → Solved
+solvedBy layout shape f = record { result = resultOf (Solver layout) shape (f .verdict); rhs = f .rhs; work = f .work }
+
+-- the work memory decides neither the verdict nor the right-hand sides, and keeps its length; and no verdict of a solver spends the matrix
 module _ (n m : ℕ) (l : Triangle) (rhs w : List Float) where
   free-same :
-      (w′ : List Float) → (freeSolved n m l rhs w .result ≡ freeSolved n m l rhs w′ .result) × (freeSolved n m l rhs w .rhs ≡ freeSolved n m l rhs w′ .rhs)
+      (w′ : List Float) → (freeSolved n m l rhs w .verdict ≡ freeSolved n m l rhs w′ .verdict) × (freeSolved n m l rhs w .rhs ≡ freeSolved n m l rhs w′ .rhs)
   unfolding freeSolved
   free-same w′ = go (accepted (freeChecks n l rhs))
     where
       go :
           (b : Bool) →
-          (cond b (freeDone n m l rhs w) (freeLeft n l rhs w) .result ≡ cond b (freeDone n m l rhs w′) (freeLeft n l rhs w′) .result)
+          (cond b (freeDone n m l rhs w) (freeLeft n l rhs w) .verdict ≡ cond b (freeDone n m l rhs w′) (freeLeft n l rhs w′) .verdict)
           × (cond b (freeDone n m l rhs w) (freeLeft n l rhs w) .rhs ≡ cond b (freeDone n m l rhs w′) (freeLeft n l rhs w′) .rhs)
       go true = (refl, refl)
       go false = (refl, refl)
@@ -75,6 +87,16 @@ module _ (n m : ℕ) (l : Triangle) (rhs w : List Float) where
       go : (b : Bool) → length (cond b (freeDone n m l rhs w) (freeLeft n l rhs w) .work) ≡ length w
       go true = length-clear n w h
       go false = refl
+
+  free-keeps : Keeps (freeSolved n m l rhs w .verdict)
+  unfolding freeSolved freeChecks diagonalRule
+  free-keeps =
+      cond-both (λ (f : Free). Keeps (f .verdict)) (accepted (freeChecks n l rhs)) _ _ (rhs-keeps n m l rhs)
+      (first-holds Keeps refl _ _ (finite-holds Keeps refl low-keeps 8 (omega arith) rhs)
+      (first-holds Keeps refl _ _
+      (lowest-holds Keeps refl (λ j. refuseIf (not (positive (entry l j j))) (refusal 9 j zero64))
+      (λ j. refuse-holds Keeps refl (not (positive (entry l j j))) (refusal 9 j zero64) refl) n)
+      (none-holds Keeps refl)))
 
 -- ---- one layout
 
@@ -92,6 +114,10 @@ stored-finite place n bij l s f memory whole =
     subst (λ x. T (finite (getD (store place l memory) x nan))) (from .3)
     (subst (λ x. T (finite x)) (sym (store-same place n bij l n s memory (omega arith) (from .0) (from .1) nan e inside)) (f (from .0) (from .1) e)))
 
+-- an order and a block length with the state of their memory
+abbrev inState : State → ℕ → ℕ → Shape
+inState state n b = record { order = n; block = b; state = stateNumber state }
+
 module _ (n b m : ℕ) (order : n ≤ maxOrder) (low : 1 ≤ b) (high : b ≤ maxBlock) (count : m ≤ maxRhs) (layout : Layout) where
   abbrev place : ℕ → ℕ → ℕ
   place = placeOf layout n b
@@ -106,37 +132,66 @@ module _ (n b m : ℕ) (order : n ≤ maxOrder) (low : 1 ≤ b) (high : b ≤ ma
         ap (λ x. refuseIf (not (positive x)) (refusal 9 j zero64))
         (store-same place n (layout-bijection layout n b low) l n s memory (omega arith) j j nan (record { lower = omega arith; inside = h }) h))
 
-    solver-checks : (rhs : List Float) (wl : ℕ) → length rhs ≡ n * m → n ≤ wl → solverChecks layout n b m (store place l memory) rhs wl ≡ freeChecks n l rhs
+    factor-suits : T (suits (next (Solver layout) (stateNumber (Factored layout))))
+    unfolding lookUp
+    factor-suits = elim layout [
+      | Packed ↦ tt
+      | Blocked ↦ tt
+    ]
+
+    solver-checks :
+        (rhs : List Float) (wl : ℕ) → length rhs ≡ n * m → n ≤ wl →
+        solverChecks layout (inState (Factored layout) n b) m (store place l memory) rhs wl ≡ freeChecks n l rhs
     unfolding solverChecks freeChecks
     solver-checks rhs wl hr hw =
         let bij : Bijection place n = layout-bijection layout n b low in
         let mat : List Float = store place l memory in
-        sizes-pass (Solver layout) n b (length mat) wl (rule5 m ∷ rule6 n m (length rhs) ∷ rule7 mat ∷ rule8 rhs ∷ rule9 place n mat ∷ [])
-        (record { order = order; blockLow = low; blockHigh = high; matrix = length-store place n bij l memory ∙ whole; work = hw })
+        sizes-pass (Solver layout) (inState (Factored layout) n b) (length mat) wl (rule5 m ∷ rule6 n m (length rhs) ∷ rule7 mat ∷ rule8 rhs ∷ rule9 place n mat ∷ [])
+        (record { order = order; blockLow = low; blockHigh = high; state = factor-suits; matrix = length-store place n bij l memory ∙ whole; work = hw })
         ∙ first-passes (rule5 m) (rule6 n m (length rhs) ∷ rule7 mat ∷ rule8 rhs ∷ rule9 place n mat ∷ []) (rule5-passes m count)
         ∙ first-passes (rule6 n m (length rhs)) (rule7 mat ∷ rule8 rhs ∷ rule9 place n mat ∷ []) (rule6-passes n m (length rhs) hr)
         ∙ first-passes (rule7 mat) (rule8 rhs ∷ rule9 place n mat ∷ []) (finite-rule 7 mat (stored-finite place n bij l s f memory whole))
         ∙ ap (λ r. firstRefusal (rule8 rhs ∷ r ∷ [])) diagonal-same
 
-    solve-free : (rhs work : List Float) → length rhs ≡ n * m → n ≤ length work → solve layout n b m (store place l memory) rhs work ≡ freeSolved n m l rhs work
+    solve-free :
+        (rhs work : List Float) → length rhs ≡ n * m → n ≤ length work →
+        solve layout (inState (Factored layout) n b) m (store place l memory) rhs work ≡ solvedBy layout (inState (Factored layout) n b) (freeSolved n m l rhs work)
     unfolding solve solved freeSolved
     solve-free rhs work hr hw =
-        rw (solver-checks rhs (length work) hr hw, load-store place n (layout-bijection layout n b low) l memory s (omega arith)) refl
+        rw (solver-checks rhs (length work) hr hw, load-store place n (layout-bijection layout n b low) l memory s (omega arith))
+        (go (accepted (freeChecks n l rhs)))
+      where
+        by : Free → Solved
+        by = solvedBy layout (inState (Factored layout) n b)
+
+        go : (c : Bool) → cond c (by (freeDone n m l rhs work)) (by (freeLeft n l rhs work)) ≡ by (cond c (freeDone n m l rhs work) (freeLeft n l rhs work))
+        go true = refl
+        go false = refl
+
+  raw-suits : T (suits (next (Factor layout) (stateNumber (Raw layout))))
+  unfolding lookUp
+  raw-suits = elim layout [
+    | Packed ↦ tt
+    | Blocked ↦ tt
+  ]
 
   -- the factor of a memory that holds the finite matrix a
   factor-free :
       (a : Triangle) (memory work : List Float) → load place (height n) n memory ≡ a → length memory ≡ triangle n → T (all finite memory) →
       neededWork (Factor layout) n b ≤ length work →
-      factorize layout n b memory work
+      factorize layout (inState (Raw layout) n b) memory work
       ≡ record {
-        result = judgedResult (columnsJudged n a);
+        result = judgedResult (Factor layout) (inState (Raw layout) n b) (columnsJudged n a);
         matrix = store place (columns n a (finished layout n b (columnsVerdict n a))) memory;
         work = clear (neededWork (Factor layout) n b) work;
       }
   unfolding factorize factored
   factor-free a memory work e whole f hw =
-      rw
-      (factor-checks layout n b memory (length work) (record { order = order; blockLow = low; blockHigh = high; matrix = whole; work = hw }) f, e)
+      rw (
+        factor-checks layout (inState (Raw layout) n b) memory (length work)
+            (record { order = order; blockLow = low; blockHigh = high; state = raw-suits; matrix = whole; work = hw }) f,
+        e,
+      )
       refl
 
 all-finished : (layout : Layout) (n b : ℕ) (v : Verdict) → T (accepted v) → finished layout n b v ≡ n
@@ -144,13 +199,21 @@ all-finished Packed n b v t = rw (is-true (accepted v) t) refl
 all-finished Blocked n b v t = rw (is-true (accepted v) t) refl
 
 rearrange-free :
-    (from to : Layout) (n b : ℕ) (memory work : List Float) → Sizes Rearranger n b (length memory) (length work) →
-    rearrange from to n b memory work
-    ≡ record { result = resultOf success; matrix = moved from to n b memory; work = clear (blockWork n b) work }
+    (from to : Layout) (shape : Shape) (memory work : List Float) → Sizes (Rearranger from to) shape (length memory) (length work) →
+    rearrange from to shape memory work
+    ≡ record {
+      result = resultOf (Rearranger from to) shape success;
+      matrix = moved from to (shape .order) (shape .block) memory;
+      work = clear (blockWork (shape .order) (shape .block)) work;
+    }
 unfolding rearrange
-rearrange-free from to n b memory work s = rw (rearranger-checks n b (length memory) (length work) s) refl
+rearrange-free from to shape memory work s = rw (rearranger-checks from to shape (length memory) (length work) s) refl
 
 -- ---- both pipelines
+
+-- the result of a rearranger that succeeds
+abbrev passed : Shape → CallResult
+passed shape = record { code = 0; place = 0; value = zero64; exact = false; shape = shape }
 
 module _ (n b m : ℕ) (matrix rhs plainWork blockedWork : List Float) (v : T (all (fits binary64) matrix)) (s : Start n b m matrix rhs plainWork blockedWork) where
   -- the matrix, its verdict, what its factors return, and its factor where that is accepted
@@ -160,8 +223,8 @@ module _ (n b m : ℕ) (matrix rhs plainWork blockedWork : List Float) (v : T (a
   abbrev verdict : Verdict
   verdict = columnsVerdict n a
 
-  abbrev answer : CallResult
-  answer = judgedResult (columnsJudged n a)
+  abbrev factorResult : Layout → CallResult
+  factorResult layout = judgedResult (Factor layout) (inState (Raw layout) n b) (columnsJudged n a)
 
   abbrev factorOf : Triangle
   factorOf = columns n a n
@@ -202,16 +265,16 @@ module _ (n b m : ℕ) (matrix rhs plainWork blockedWork : List Float) (v : T (a
   cleared-length = length-clear (blockWork n b) blockedWork (s .blockedWorkLength)
 
   plain-factor :
-      factorize Packed n b matrix plainWork
-      ≡ record { result = answer; matrix = store (placeOf Packed n b) (columns n a (finished Packed n b verdict)) matrix; work = clear n plainWork }
+      factorize Packed (packedRaw n b) matrix plainWork
+      ≡ record { result = factorResult Packed; matrix = store (placeOf Packed n b) (columns n a (finished Packed n b verdict)) matrix; work = clear n plainWork }
   plain-factor =
       factor-free n b m (s .order) (s .blockLow) (s .blockHigh) (s .rhsCount) Packed a matrix plainWork refl (s .matrixLength) (s .matrixFinite)
       (s .plainWorkLength)
 
   blocked-factor :
-      factorize Blocked n b inBlocks clearedWork
+      factorize Blocked (inState (Raw Blocked) n b) inBlocks clearedWork
       ≡ record {
-        result = answer;
+        result = factorResult Blocked;
         matrix = store (placeOf Blocked n b) (columns n a (finished Blocked n b verdict)) inBlocks;
         work = clear (blockWork n b) clearedWork;
       }
@@ -220,19 +283,32 @@ module _ (n b m : ℕ) (matrix rhs plainWork blockedWork : List Float) (v : T (a
       (omega (arith, cleared-length, s .blockedWorkLength))
 
   there :
-      rearrange Packed Blocked n b matrix blockedWork
-      ≡ record { result = resultOf success; matrix = inBlocks; work = clearedWork }
+      rearrange Packed Blocked (packedRaw n b) matrix blockedWork
+      ≡ record { result = passed (inState (Raw Blocked) n b); matrix = inBlocks; work = clearedWork }
+  unfolding stateAfter lookUp
   there =
-      rearrange-free Packed Blocked n b matrix blockedWork
-      (record { order = s .order; blockLow = s .blockLow; blockHigh = s .blockHigh; matrix = s .matrixLength; work = s .blockedWorkLength })
+      rearrange-free Packed Blocked (packedRaw n b) matrix blockedWork
+      (record { order = s .order; blockLow = s .blockLow; blockHigh = s .blockHigh; state = tt; matrix = s .matrixLength; work = s .blockedWorkLength })
 
-  plain-result : plainPipeline n b m matrix rhs plainWork .factorResult ≡ answer
+  plain-result : plainPipeline n b m matrix rhs plainWork .factorResult ≡ factorResult Packed
   unfolding plainPipeline
-  plain-result = rw plain-factor (cond-both (λ (e : Ended). e .factorResult ≡ answer) (accepted verdict) _ _ refl refl)
+  plain-result = rw plain-factor (cond-both (λ (e : Ended). e .factorResult ≡ factorResult Packed) (accepted verdict) _ _ refl refl)
 
-  blocked-result : blockedPipeline n b m matrix rhs blockedWork .factorResult ≡ answer
+  blocked-result : blockedPipeline n b m matrix rhs blockedWork .factorResult ≡ factorResult Blocked
   unfolding blockedPipeline
-  blocked-result = rw (there, blocked-factor) (cond-both (λ (e : Ended). e .factorResult ≡ answer) (accepted verdict) _ _ refl refl)
+  blocked-result = rw (there, blocked-factor) (cond-both (λ (e : Ended). e .factorResult ≡ factorResult Blocked) (accepted verdict) _ _ refl refl)
+
+  -- ---- a refused factor: both memories are spent
+
+  module _ (e : accepted verdict ≡ false) where
+    plain-spent : plainPipeline n b m matrix rhs plainWork .shape ≡ inState Spent n b
+    unfolding plainPipeline
+    plain-spent = rw (plain-factor, e) (ap (λ k. record { order = n; block = b; state = k }) (state-spent (Factor Packed) 0 verdict e (columns-spend n a e)))
+
+    blocked-spent : blockedPipeline n b m matrix rhs blockedWork .shape ≡ inState Spent n b
+    unfolding blockedPipeline
+    blocked-spent =
+        rw (there, blocked-factor, e) (ap (λ k. record { order = n; block = b; state = k }) (state-spent (Factor Blocked) 1 verdict e (columns-spend n a e)))
 
   -- ---- an accepted factor
 
@@ -249,19 +325,28 @@ module _ (n b m : ℕ) (matrix rhs plainWork blockedWork : List Float) (v : T (a
     plain-ended :
         plainPipeline n b m matrix rhs plainWork
         ≡ (let d = freeSolved n m factorOf rhs (clear n plainWork) in
-        record { factorResult = answer; solverResult = d .result; matrix = store (placeOf Packed n b) factorOf matrix; rhs = d .rhs; work = d .work })
+        record {
+          factorResult = factorResult Packed;
+          solverResult = resultOf (Solver Packed) (inState (Factored Packed) n b) (d .verdict);
+          shape = inState (Factored Packed) n b;
+          matrix = store (placeOf Packed n b) factorOf matrix;
+          rhs = d .rhs;
+          work = d .work;
+        })
     unfolding plainPipeline
     plain-ended =
         rw (
           plain-factor,
           all-finished Packed n b verdict t,
           is-true (accepted verdict) t,
+          factor-state Packed n a t,
           solve-free n b m (s .order) (s .blockLow) (s .blockHigh) (s .rhsCount) Packed factorOf factor-shaped factor-finite matrix (s .matrixLength) rhs
               (clear n plainWork) (s .rhsLength) (omega (arith, length-clear n plainWork (s .plainWorkLength), s .plainWorkLength)),
+          solver-keeps Packed (freeSolved n m factorOf rhs (clear n plainWork) .verdict) (free-keeps n m factorOf rhs (clear n plainWork)),
         )
         refl
 
-    abbrev solvedBlocks : Solved
+    abbrev solvedBlocks : Free
     solvedBlocks = freeSolved n m factorOf rhs (clear (blockWork n b) clearedWork)
 
     abbrev factorBlocks : List Float
@@ -287,17 +372,30 @@ module _ (n b m : ℕ) (matrix rhs plainWork blockedWork : List Float) (v : T (a
         ∙ store-whole (placeOf Packed n b) n (layout-bijection Packed n b (s .blockLow)) factorOf factorBlocks matrix factor-shaped blocks-length (s .matrixLength)
 
     back :
-        rearrange Blocked Packed n b factorBlocks (solvedBlocks .work)
-        ≡ record { result = resultOf success; matrix = moved Blocked Packed n b factorBlocks; work = clear (blockWork n b) (solvedBlocks .work) }
+        rearrange Blocked Packed (inState (Factored Blocked) n b) factorBlocks (solvedBlocks .work)
+        ≡ record {
+          result = passed (inState (Factored Packed) n b);
+          matrix = moved Blocked Packed n b factorBlocks;
+          work = clear (blockWork n b) (solvedBlocks .work);
+        }
+    unfolding stateAfter lookUp
     back =
-        rearrange-free Blocked Packed n b factorBlocks (solvedBlocks .work)
-        (record { order = s .order; blockLow = s .blockLow; blockHigh = s .blockHigh; matrix = blocks-length; work = omega (arith, work-length, s .blockedWorkLength) })
+        rearrange-free Blocked Packed (inState (Factored Blocked) n b) factorBlocks (solvedBlocks .work)
+        (record {
+          order = s .order;
+          blockLow = s .blockLow;
+          blockHigh = s .blockHigh;
+          state = tt;
+          matrix = blocks-length;
+          work = omega (arith, work-length, s .blockedWorkLength);
+        })
 
     blocked-ended :
         blockedPipeline n b m matrix rhs blockedWork
         ≡ record {
-          factorResult = answer;
-          solverResult = solvedBlocks .result;
+          factorResult = factorResult Blocked;
+          solverResult = resultOf (Solver Blocked) (inState (Factored Blocked) n b) (solvedBlocks .verdict);
+          shape = inState (Factored Packed) n b;
           matrix = store (placeOf Packed n b) factorOf matrix;
           rhs = solvedBlocks .rhs;
           work = clear (blockWork n b) (solvedBlocks .work);
@@ -309,9 +407,11 @@ module _ (n b m : ℕ) (matrix rhs plainWork blockedWork : List Float) (v : T (a
           blocked-factor,
           all-finished Blocked n b verdict t,
           is-true (accepted verdict) t,
+          factor-state Blocked n a t,
           solve-free n b m (s .order) (s .blockLow) (s .blockHigh) (s .rhsCount) Blocked factorOf factor-shaped factor-finite inBlocks moved-length rhs
               (clear (blockWork n b) clearedWork) (s .rhsLength)
               (omega (arith, length-clear (blockWork n b) clearedWork (omega (arith, cleared-length, s .blockedWorkLength)), cleared-length, s .blockedWorkLength, work-enough)),
+          solver-keeps Blocked (solvedBlocks .verdict) (free-keeps n m factorOf rhs (clear (blockWork n b) clearedWork)),
           back,
           back-matrix,
         )
@@ -320,9 +420,12 @@ module _ (n b m : ℕ) (matrix rhs plainWork blockedWork : List Float) (v : T (a
 pub pipelines-agree : PipelinesAgree
 pipelines-agree n b m matrix rhs pw bw v s =
     record {
-      factors = plain-result n b m matrix rhs pw bw v s ∙ sym (blocked-result n b m matrix rhs pw bw v s);
+      factors = ap answer (plain-result n b m matrix rhs pw bw v s) ∙ sym (ap answer (blocked-result n b m matrix rhs pw bw v s));
+      shape = shapes (accepted (verdict n b m matrix rhs pw bw v s)) refl;
       solvers = λ t.
-          ap (λ (e : Ended). e .solverResult) (plain t) ∙ free-same n m l rhs (clear n pw) work .0 ∙ sym (ap (λ (e : Ended). e .solverResult) (block t));
+          ap (λ (e : Ended). answer (e .solverResult)) (plain t)
+          ∙ ap (λ (w : Verdict). record { verdict = w; exact = false }) (free-same n m l rhs (clear n pw) work .0)
+          ∙ sym (ap (λ (e : Ended). answer (e .solverResult)) (block t));
       rhs = λ t. ap (λ (e : Ended). e .rhs) (plain t) ∙ free-same n m l rhs (clear n pw) work .1 ∙ sym (ap (λ (e : Ended). e .rhs) (block t));
       matrix = λ t. ap (λ (e : Ended). e .matrix) (plain t) ∙ sym (ap (λ (e : Ended). e .matrix) (block t));
     }
@@ -340,7 +443,14 @@ pipelines-agree n b m matrix rhs pw bw v s =
         T (succeeded (plainPipeline n b m matrix rhs pw .factorResult)) →
         plainPipeline n b m matrix rhs pw
         ≡ (let d = freeSolved n m l rhs (clear n pw) in
-        record { factorResult = answer n b m matrix rhs pw bw v s; solverResult = d .result; matrix = store (placeOf Packed n b) l matrix; rhs = d .rhs; work = d .work })
+        record {
+          factorResult = factorResult n b m matrix rhs pw bw v s Packed;
+          solverResult = resultOf (Solver Packed) (inState (Factored Packed) n b) (d .verdict);
+          shape = inState (Factored Packed) n b;
+          matrix = store (placeOf Packed n b) l matrix;
+          rhs = d .rhs;
+          work = d .work;
+        })
     plain t = plain-ended n b m matrix rhs pw bw v s (ok t)
 
     block :
@@ -348,13 +458,21 @@ pipelines-agree n b m matrix rhs pw bw v s =
         blockedPipeline n b m matrix rhs bw
         ≡ (let d = freeSolved n m l rhs work in
         record {
-          factorResult = answer n b m matrix rhs pw bw v s;
-          solverResult = d .result;
+          factorResult = factorResult n b m matrix rhs pw bw v s Blocked;
+          solverResult = resultOf (Solver Blocked) (inState (Factored Blocked) n b) (d .verdict);
+          shape = inState (Factored Packed) n b;
           matrix = store (placeOf Packed n b) l matrix;
           rhs = d .rhs;
           work = clear (blockWork n b) (d .work);
         })
     block t = blocked-ended n b m matrix rhs pw bw v s (ok t)
+
+    shapes : (c : Bool) → accepted (verdict n b m matrix rhs pw bw v s) ≡ c → plainPipeline n b m matrix rhs pw .shape ≡ blockedPipeline n b m matrix rhs bw .shape
+    shapes true e =
+        let t : T (accepted (verdict n b m matrix rhs pw bw v s)) = rw e tt in
+        ap (λ (x : Ended). x .shape) (plain-ended n b m matrix rhs pw bw v s t)
+        ∙ sym (ap (λ (x : Ended). x .shape) (blocked-ended n b m matrix rhs pw bw v s t))
+    shapes false e = plain-spent n b m matrix rhs pw bw v s e ∙ sym (blocked-spent n b m matrix rhs pw bw v s e)
 
 -- the start's premises are document 01's numbers and lengths, and ask nothing of right-hand sides and work but their lengths
 pub start-of :

@@ -1,26 +1,30 @@
--- Laws of the checks before any work: what an accepted rule, and an accepted check, says of its arguments, and which codes a factor's checks answer. Assumes
--- nothing.
+-- Laws of the checks before any work: what an accepted rule, and an accepted check, says of its arguments, and which codes the checks answer. Assumes nothing.
 use Prim.Native.Nat.{ℕ, zero, suc, _*_, _≤_, _<_}
 use native.Mathlib.Omega.{arith}
 use mathlib.Core.Path.{_≡_, refl, sym, ap, _∙_}
-use mathlib.Core.Bool.{Bool, true, false, cond, not, _&&_, _||_}
+use mathlib.Core.Bool.{Bool, true, false, not, _&&_, _||_}
 use mathlib.Core.List.{List, [], _∷_, _++_}
+use borrow.Author.Tests.{ne-eqb}
 use lib.Dec.{T, ltb, eqb, nltb→le, eqb→eq}
 use lib.ListN.{length, getD}
 use lib.Ieee.{Float, nan}
 use Rattle.binary64.specs.Kinds.{finite, positive, zero64}
 use Rattle.shape.specs.Bounds.{maxOrder, maxBlock, maxRhs}
 use Rattle.shape.specs.Places.{triangle}
+use Rattle.shape.specs.declared.Shape.{Shape}
 use Rattle.calls.specs.declared.Verdict.{Verdict}
 use Rattle.calls.specs.declared.Layout.{Layout}
 use Rattle.calls.specs.declared.Call.{Call}
 use Rattle.calls.specs.declared.Call.the-variants.{Rearranger, Factor, Solver}
 use Rattle.calls.specs.Sequences.{all}
-use Rattle.calls.specs.Triangles.{placeOf}
-use Rattle.calls.specs.Refusals.{success, accepted, refusal, refuseIf, firstRefusal, lowestRefusal, byBlocks, neededWork, rule1, rule2, rule3, rule4, rule5, rule6, rule7, rule8, finiteRule, rule9}
-use Rattle.calls.specs.Calls.{DoneAs, resultOf, rearrangerChecks, factorChecks, solverChecks, factorize}
+use Rattle.calls.specs.Triangles.{Triangle, placeOf}
+use Rattle.calls.specs.Arithmetic.{forward}
+use Rattle.calls.specs.States.{next, suits}
+use Rattle.calls.specs.Refusals.{success, accepted, refusal, refuseIf, firstRefusal, byBlocks, neededWork, rule1, rule2, rule15, rule3, rule4, rule5, rule6, rule7, rule8, finiteRule, rule9, rule12}
+use Rattle.calls.specs.Calls.{DoneAs, spends, resultOf, rearrangerChecks, factorChecks, solverChecks, factorize, rhsPart, solution, rhsVerdict}
 use Rattle.calls.proofs.Sequences.{all-of}
-use Rattle.calls.proofs.Refusals.{not-not, refuse-not, not-refused, first-accepted, lowest-accepted}
+use Rattle.calls.proofs.Refusals.{not-not, refuse-not, not-refused, first-accepted, lowest-accepted, refuse-holds, none-holds, first-holds, lowest-holds}
+use Rattle.calls.proofs.Checks.{sizeRules}
 use Rattle.calls.proofs.Judging.{first-success, first-alone, lowest-all}
 
 -- ---- one rule
@@ -47,6 +51,10 @@ rule2-accepted call b h t =
     positive-of : (b : ℕ) → T (not (eqb b 0)) → 1 ≤ b
     positive-of zero h = absurd h
     positive-of (suc b) h = omega arith
+
+pub rule15-accepted : (call : Call) (state : ℕ) → T (accepted (rule15 call state)) → T (suits (next call state))
+unfolding rule15
+rule15-accepted call state h = not-not (suits (next call state)) (not-refused (not (suits (next call state))) 14 0 zero64 h)
 
 pub rule3-accepted : (n l : ℕ) → T (accepted (rule3 n l)) → l ≡ triangle n
 unfolding rule3
@@ -101,123 +109,172 @@ module _ (place : ℕ → ℕ → ℕ) (n : ℕ) (matrix : List Float) where
 
 -- ---- what an accepted check says
 
--- of the sizes; the block length is bounded only where the call works by blocks
-pub record SizesAccepted (call : Call) (n b matrixLength workLength : ℕ) : Type 0 where
-  pub order : n ≤ maxOrder
-  pub blockLow : T (byBlocks call) → 1 ≤ b
-  pub blockHigh : T (byBlocks call) → b ≤ maxBlock
-  pub matrix : matrixLength ≡ triangle n
-  pub work : neededWork call n b ≤ workLength
+-- of the sizes and the state; the block length is bounded only where the call works by blocks
+pub record SizesAccepted (call : Call) (shape : Shape) (matrixLength workLength : ℕ) : Type 0 where
+  pub order : shape .order ≤ maxOrder
+  pub blockLow : T (byBlocks call) → 1 ≤ shape .block
+  pub blockHigh : T (byBlocks call) → shape .block ≤ maxBlock
+  pub state : T (suits (next call (shape .state)))
+  pub matrix : matrixLength ≡ triangle (shape .order)
+  pub work : neededWork call (shape .order) (shape .block) ≤ workLength
 
-abbrev pub RearrangerAccepted : ℕ → ℕ → ℕ → ℕ → Type 0
-RearrangerAccepted n b matrixLength workLength = SizesAccepted Rearranger n b matrixLength workLength
+abbrev pub RearrangerAccepted : Layout → Layout → Shape → ℕ → ℕ → Type 0
+RearrangerAccepted from to shape matrixLength workLength = SizesAccepted (Rearranger from to) shape matrixLength workLength
 
-pub record FactorAccepted (layout : Layout) (n b : ℕ) (matrix : List Float) (workLength : ℕ) : Type 0 where
-  pub sizes : SizesAccepted (Factor layout) n b (length matrix) workLength
+pub record FactorAccepted (layout : Layout) (shape : Shape) (matrix : List Float) (workLength : ℕ) : Type 0 where
+  pub sizes : SizesAccepted (Factor layout) shape (length matrix) workLength
   pub matrixFinite : T (all finite matrix)
 
-pub record SolverAccepted (layout : Layout) (n b m : ℕ) (matrix rhs : List Float) (workLength : ℕ) : Type 0 where
-  pub sizes : SizesAccepted (Solver layout) n b (length matrix) workLength
+pub record SolverAccepted (layout : Layout) (shape : Shape) (m : ℕ) (matrix rhs : List Float) (workLength : ℕ) : Type 0 where
+  pub sizes : SizesAccepted (Solver layout) shape (length matrix) workLength
   pub rhsCount : m ≤ maxRhs
-  pub rhsLength : length rhs ≡ n * m
+  pub rhsLength : length rhs ≡ shape .order * m
   pub matrixFinite : T (all finite matrix)
   pub rhsFinite : T (all finite rhs)
-  pub diagonal : (j : ℕ) → j < n → T (positive (getD matrix (placeOf layout n b j j) nan))
+  pub diagonal : (j : ℕ) → j < shape .order → T (positive (getD matrix (placeOf layout (shape .order) (shape .block) j j) nan))
 
-module _ (call : Call) (n b ml wl : ℕ) where
-  abbrev pub sizeRules : List Verdict
-  sizeRules = rule1 n ∷ rule2 call b ∷ rule3 n ml ∷ rule4 call n b wl ∷ []
-
-  pub sizes-accepted : (rest : List Verdict) → T (accepted (firstRefusal (sizeRules ++ rest))) → SizesAccepted call n b ml wl × T (accepted (firstRefusal rest))
+module _ (call : Call) (shape : Shape) (ml wl : ℕ) where
+  pub sizes-accepted :
+      (rest : List Verdict) → T (accepted (firstRefusal (sizeRules call shape ml wl ++ rest))) → SizesAccepted call shape ml wl × T (accepted (firstRefusal rest))
   sizes-accepted rest h =
-      let p1 = first-accepted (rule1 n) (rule2 call b ∷ rule3 n ml ∷ rule4 call n b wl ∷ rest) h in
-      let p2 = first-accepted (rule2 call b) (rule3 n ml ∷ rule4 call n b wl ∷ rest) (p1 .1) in
-      let p3 = first-accepted (rule3 n ml) (rule4 call n b wl ∷ rest) (p2 .1) in
-      let p4 = first-accepted (rule4 call n b wl) rest (p3 .1) in (
+      let p1 = first-accepted _ _ h in
+      let p2 = first-accepted _ _ (p1 .1) in
+      let p15 = first-accepted _ _ (p2 .1) in
+      let p3 = first-accepted _ _ (p15 .1) in
+      let p4 = first-accepted _ rest (p3 .1) in (
         record {
-          order = rule1-accepted n (p1 .0);
-          blockLow = λ t. rule2-accepted call b (p2 .0) t .0;
-          blockHigh = λ t. rule2-accepted call b (p2 .0) t .1;
-          matrix = rule3-accepted n ml (p3 .0);
-          work = rule4-accepted call n b wl (p4 .0);
+          order = rule1-accepted (shape .order) (p1 .0);
+          blockLow = λ t. rule2-accepted call (shape .block) (p2 .0) t .0;
+          blockHigh = λ t. rule2-accepted call (shape .block) (p2 .0) t .1;
+          state = rule15-accepted call (shape .state) (p15 .0);
+          matrix = rule3-accepted (shape .order) ml (p3 .0);
+          work = rule4-accepted call (shape .order) (shape .block) wl (p4 .0);
         },
         p4 .1,
       )
 
-module _ (n b ml wl : ℕ) (h : T (accepted (rearrangerChecks n b ml wl))) where
-  pub rearranger-accepted : RearrangerAccepted n b ml wl
+module _ (from to : Layout) (shape : Shape) (ml wl : ℕ) (h : T (accepted (rearrangerChecks from to shape ml wl))) where
+  pub rearranger-accepted : RearrangerAccepted from to shape ml wl
   unfolding rearrangerChecks
-  rearranger-accepted = sizes-accepted Rearranger n b ml wl [] h .0
+  rearranger-accepted = sizes-accepted (Rearranger from to) shape ml wl [] h .0
 
-  pub rearranger-success : rearrangerChecks n b ml wl ≡ success
+  pub rearranger-success : rearrangerChecks from to shape ml wl ≡ success
   unfolding rearrangerChecks
   rearranger-success = first-success _ h
 
-module _ (layout : Layout) (n b : ℕ) (matrix : List Float) (wl : ℕ) (h : T (accepted (factorChecks layout n b matrix wl))) where
-  pub factor-accepted : FactorAccepted layout n b matrix wl
+module _ (layout : Layout) (shape : Shape) (matrix : List Float) (wl : ℕ) (h : T (accepted (factorChecks layout shape matrix wl))) where
+  pub factor-accepted : FactorAccepted layout shape matrix wl
   unfolding factorChecks
   factor-accepted =
-      let s = sizes-accepted (Factor layout) n b (length matrix) wl (rule7 matrix ∷ []) h in
+      let s = sizes-accepted (Factor layout) shape (length matrix) wl (rule7 matrix ∷ []) h in
       record { sizes = s .0; matrixFinite = finite-accepted 6 matrix (first-accepted (rule7 matrix) [] (s .1) .0) }
 
--- ---- the codes of a factor's checks are below those of its columns
+-- ---- what holds of success and of refusals with a code below 10 holds of rules 1 to 9
 
-record CheckCode (v : Verdict) : Type 0 where
-  below : v .code < 10
+module _ (P : Verdict → Type 0) (none : P success) (low : (code place : ℕ) → code < 10 → P (refusal code place zero64)) where
+  refused-low : (c : Bool) (code place : ℕ) → code < 10 → P (refuseIf c (refusal code place zero64))
+  refused-low c code place h = refuse-holds P none c (refusal code place zero64) (low code place h)
 
-refuse-code : (c : Bool) (code place : ℕ) → code < 10 → CheckCode (refuseIf c (refusal code place zero64))
-refuse-code true code place h = record { below = h }
-refuse-code false code place h = record { below = omega arith }
+  pub rule1-holds : (n : ℕ) → P (rule1 n)
+  unfolding rule1
+  rule1-holds n = refused-low (ltb maxOrder n) 1 0 (omega arith)
 
-first-code : (r : Verdict) (rs : List Verdict) → CheckCode r → CheckCode (firstRefusal rs) → CheckCode (firstRefusal (r ∷ rs))
-unfolding firstRefusal
-first-code r rs h t = go (accepted r)
-  where
-    go : (b : Bool) → CheckCode (cond b (firstRefusal rs) r)
-    go true = t
-    go false = h
+  pub rule2-holds : (call : Call) (b : ℕ) → P (rule2 call b)
+  unfolding rule2
+  rule2-holds call b = refused-low (byBlocks call && (eqb b 0 || ltb maxBlock b)) 2 0 (omega arith)
 
-none-code : CheckCode (firstRefusal [])
-unfolding firstRefusal
-none-code = record { below = omega arith }
+  pub rule3-holds : (n l : ℕ) → P (rule3 n l)
+  unfolding rule3
+  rule3-holds n l = refused-low (not (eqb l (triangle n))) 3 0 (omega arith)
 
-lowest-code : (judge : ℕ → Verdict) → ((k : ℕ) → CheckCode (judge k)) → (n : ℕ) → CheckCode (lowestRefusal judge n)
-unfolding lowestRefusal
-lowest-code judge each zero = record { below = omega arith }
-lowest-code judge each (suc k) = go (accepted (lowestRefusal judge k)) (lowest-code judge each k)
-  where
-    go : (b : Bool) → CheckCode (lowestRefusal judge k) → CheckCode (cond b (judge k) (lowestRefusal judge k))
-    go true h = each k
-    go false h = h
+  pub rule4-holds : (call : Call) (n b l : ℕ) → P (rule4 call n b l)
+  unfolding rule4
+  rule4-holds call n b l = refused-low (ltb l (neededWork call n b)) 4 0 (omega arith)
 
-module _ (layout : Layout) (n b : ℕ) (matrix : List Float) (wl : ℕ) where
-  each-code : CheckCode (factorChecks layout n b matrix wl)
-  unfolding factorChecks rule1 rule2 rule3 rule4 finiteRule
-  each-code =
-      first-code _ _ (refuse-code (ltb maxOrder n) 1 0 (omega arith))
-      (first-code _ _ (refuse-code (byBlocks (Factor layout) && (eqb b 0 || ltb maxBlock b)) 2 0 (omega arith))
-      (first-code _ _ (refuse-code (not (eqb (length matrix) (triangle n))) 3 0 (omega arith))
-      (first-code _ _ (refuse-code (ltb wl (neededWork (Factor layout) n b)) 4 0 (omega arith))
-      (first-code _ _ (lowest-code (finiteAt 7 matrix) (λ p. refuse-code (not (finite (getD matrix p nan))) 7 p (omega arith)) (length matrix)) none-code))))
+  pub rule5-holds : (m : ℕ) → P (rule5 m)
+  unfolding rule5
+  rule5-holds m = refused-low (ltb maxRhs m) 5 0 (omega arith)
 
-  pub factor-checks-code : factorChecks layout n b matrix wl .code < 10
-  factor-checks-code = each-code .below
+  pub rule6-holds : (n m l : ℕ) → P (rule6 n m l)
+  unfolding rule6
+  rule6-holds n m l = refused-low (not (eqb l (n * m))) 6 0 (omega arith)
+
+  pub finite-holds : (code : ℕ) → code < 10 → (memory : List Float) → P (finiteRule code memory)
+  unfolding finiteRule
+  finite-holds code h memory =
+      lowest-holds P none (finiteAt code memory) (λ p. refused-low (not (finite (getD memory p nan))) code p h) (length memory)
+
+  pub rule9-holds : (place : ℕ → ℕ → ℕ) (n : ℕ) (matrix : List Float) → P (rule9 place n matrix)
+  unfolding rule9
+  rule9-holds place n matrix =
+      lowest-holds P none (positiveAt place matrix) (λ j. refused-low (not (positive (getD matrix (place j j) nan))) 9 j (omega arith)) n
+
+-- ---- no check answers a column's code, nor does a right-hand side
+
+-- the matrix is not spent
+abbrev pub Keeps : Verdict → Type 0
+Keeps v = spends v ≡ false
+
+pub low-keeps : (code place : ℕ) → code < 10 → Keeps (refusal code place zero64)
+low-keeps code place h = rw (ne-eqb code 10 (λ e. omega arith), ne-eqb code 11 (λ e. omega arith), ne-eqb code 16 (λ e. omega arith)) refl
+
+sizes-keep : (call : Call) (shape : Shape) (ml wl : ℕ) (rest : List Verdict) → Keeps (firstRefusal rest) → Keeps (firstRefusal (sizeRules call shape ml wl ++ rest))
+unfolding rule15
+sizes-keep call shape ml wl rest h =
+    first-holds Keeps refl _ _ (rule1-holds Keeps refl low-keeps (shape .order))
+    (first-holds Keeps refl _ _ (rule2-holds Keeps refl low-keeps call (shape .block))
+    (first-holds Keeps refl _ _ (refuse-holds Keeps refl (not (suits (next call (shape .state)))) (refusal 15 0 zero64) refl)
+    (first-holds Keeps refl _ _ (rule3-holds Keeps refl low-keeps (shape .order) ml)
+    (first-holds Keeps refl _ _ (rule4-holds Keeps refl low-keeps call (shape .order) (shape .block) wl) h))))
+
+pub rearranger-checks-keep : (from to : Layout) (shape : Shape) (ml wl : ℕ) → Keeps (rearrangerChecks from to shape ml wl)
+unfolding rearrangerChecks
+rearranger-checks-keep from to shape ml wl = sizes-keep (Rearranger from to) shape ml wl [] (none-holds Keeps refl)
+
+pub factor-checks-keep : (layout : Layout) (shape : Shape) (matrix : List Float) (wl : ℕ) → Keeps (factorChecks layout shape matrix wl)
+unfolding factorChecks
+factor-checks-keep layout shape matrix wl =
+    sizes-keep (Factor layout) shape (length matrix) wl (rule7 matrix ∷ [])
+    (first-holds Keeps refl _ _ (finite-holds Keeps refl low-keeps 7 (omega arith) matrix) (none-holds Keeps refl))
+
+pub solver-checks-keep : (layout : Layout) (shape : Shape) (m : ℕ) (matrix rhs : List Float) (wl : ℕ) → Keeps (solverChecks layout shape m matrix rhs wl)
+unfolding solverChecks
+solver-checks-keep layout shape m matrix rhs wl =
+    let n = shape .order in
+    let place = placeOf layout n (shape .block) in
+    sizes-keep (Solver layout) shape (length matrix) wl (rule5 m ∷ rule6 n m (length rhs) ∷ rule7 matrix ∷ rule8 rhs ∷ rule9 place n matrix ∷ [])
+    (first-holds Keeps refl _ _ (rule5-holds Keeps refl low-keeps m)
+    (first-holds Keeps refl _ _ (rule6-holds Keeps refl low-keeps n m (length rhs))
+    (first-holds Keeps refl _ _ (finite-holds Keeps refl low-keeps 7 (omega arith) matrix)
+    (first-holds Keeps refl _ _ (finite-holds Keeps refl low-keeps 8 (omega arith) rhs)
+    (first-holds Keeps refl _ _ (rule9-holds Keeps refl low-keeps place n matrix) (none-holds Keeps refl))))))
+
+-- what holds of success and of a refusal by 12 holds of the right-hand sides' verdict
+pub rhs-holds : (P : Verdict → Type 0) → P success → ((q : ℕ) → P (refusal 12 q zero64)) → (n m : ℕ) (l : Triangle) (rhs : List Float) → P (rhsVerdict n m l rhs)
+unfolding rhsVerdict rule12
+rhs-holds P none each n m l rhs =
+    lowest-holds P none (λ q. rule12 q (forward n l (rhsPart n q rhs)) (solution n l (rhsPart n q rhs)))
+    (λ q. refuse-holds P none (not (all finite (forward n l (rhsPart n q rhs)) && all finite (solution n l (rhsPart n q rhs)))) (refusal 12 q zero64) (each q)) m
+
+pub rhs-keeps : (n m : ℕ) (l : Triangle) (rhs : List Float) → Keeps (rhsVerdict n m l rhs)
+rhs-keeps = rhs-holds Keeps refl (λ q. refl)
 
 -- a factor after its checks
-module _ (layout : Layout) (n b : ℕ) (m w : List Float) (checks : Verdict) (e : checks ≡ factorChecks layout n b m (length w)) where
-  pub factor-refused : accepted checks ≡ false → DoneAs (factorize layout n b m w) (resultOf checks) m w
+module _ (layout : Layout) (shape : Shape) (m w : List Float) (checks : Verdict) (e : checks ≡ factorChecks layout shape m (length w)) where
+  pub factor-refused : accepted checks ≡ false → DoneAs (factorize layout shape m w) (resultOf (Factor layout) shape checks) m w
   unfolding factorize
-  factor-refused f = rw (ap accepted (sym e) ∙ f) (record { result = ap resultOf e; matrix = refl; work = refl })
+  factor-refused f = rw (ap accepted (sym e) ∙ f) (record { result = ap (resultOf (Factor layout) shape) e; matrix = refl; work = refl })
 
-  pub factor-passed : accepted checks ≡ true → FactorAccepted layout n b m (length w)
-  factor-passed t = factor-accepted layout n b m (length w) (rw (ap accepted (sym e) ∙ t) tt)
+  pub factor-passed : accepted checks ≡ true → FactorAccepted layout shape m (length w)
+  factor-passed t = factor-accepted layout shape m (length w) (rw (ap accepted (sym e) ∙ t) tt)
 
-module _ (layout : Layout) (n b m : ℕ) (matrix rhs : List Float) (wl : ℕ) (h : T (accepted (solverChecks layout n b m matrix rhs wl))) where
-  pub solver-accepted : SolverAccepted layout n b m matrix rhs wl
+module _ (layout : Layout) (shape : Shape) (m : ℕ) (matrix rhs : List Float) (wl : ℕ) (h : T (accepted (solverChecks layout shape m matrix rhs wl))) where
+  pub solver-accepted : SolverAccepted layout shape m matrix rhs wl
   unfolding solverChecks
   solver-accepted =
-      let place = placeOf layout n b in
-      let s = sizes-accepted (Solver layout) n b (length matrix) wl (rule5 m ∷ rule6 n m (length rhs) ∷ rule7 matrix ∷ rule8 rhs ∷ rule9 place n matrix ∷ []) h in
+      let n = shape .order in
+      let place = placeOf layout n (shape .block) in
+      let s = sizes-accepted (Solver layout) shape (length matrix) wl (rule5 m ∷ rule6 n m (length rhs) ∷ rule7 matrix ∷ rule8 rhs ∷ rule9 place n matrix ∷ []) h in
       let p5 = first-accepted (rule5 m) (rule6 n m (length rhs) ∷ rule7 matrix ∷ rule8 rhs ∷ rule9 place n matrix ∷ []) (s .1) in
       let p6 = first-accepted (rule6 n m (length rhs)) (rule7 matrix ∷ rule8 rhs ∷ rule9 place n matrix ∷ []) (p5 .1) in
       let p7 = first-accepted (rule7 matrix) (rule8 rhs ∷ rule9 place n matrix ∷ []) (p6 .1) in
@@ -232,6 +289,6 @@ module _ (layout : Layout) (n b m : ℕ) (matrix rhs : List Float) (wl : ℕ) (h
         diagonal = rule9-accepted place n matrix (p9 .0);
       }
 
-  pub solver-success : solverChecks layout n b m matrix rhs wl ≡ success
+  pub solver-success : solverChecks layout shape m matrix rhs wl ≡ success
   unfolding solverChecks
   solver-success = first-success _ h

@@ -1,9 +1,9 @@
--- When the rules before any work pass: rules 1 to 6 by numbers, rule 7 on stored finite columns. Assumes nothing.
+-- When the rules before any work pass: rules 1 to 6 by numbers, rule 15 by the state, rule 7 on stored finite columns. Assumes nothing.
 use Prim.Native.Nat.{ℕ, _*_, _≤_}
 use native.Mathlib.Omega.{arith}
 use mathlib.Core.Path.{_≡_, refl, ap, _∙_}
 use mathlib.Core.Bool.{Bool, true, false, not, _&&_, _||_}
-use mathlib.Core.List.{List, [], _∷_}
+use mathlib.Core.List.{List, [], _∷_, _++_}
 use borrow.Author.Tests.{le-ltb, eq-eqb, ne-eqb}
 use lib.Dec.{T}
 use lib.ListN.{length, drop, replicate, length-append, length-replicate, length-drop}
@@ -11,14 +11,16 @@ use lib.Ieee.{Float}
 use Rattle.binary64.specs.Kinds.{finite, zero64}
 use Rattle.shape.specs.Bounds.{maxOrder, maxBlock, maxRhs}
 use Rattle.shape.specs.Places.{triangle}
+use Rattle.shape.specs.declared.Shape.{Shape}
 use Rattle.calls.specs.declared.Verdict.{Verdict}
 use Rattle.calls.specs.Sequences.{all}
 use Rattle.calls.specs.declared.Layout.{Layout}
 use Rattle.calls.specs.declared.Call.{Call}
 use Rattle.calls.specs.declared.Call.the-variants.{Rearranger, Factor}
-use Rattle.calls.specs.Refusals.{neededWork, byBlocks, success, refusal, refuseIf, firstRefusal, rule1, rule2, rule3, rule4, rule5, rule6, rule7}
+use Rattle.calls.specs.States.{next, suits}
+use Rattle.calls.specs.Refusals.{neededWork, byBlocks, success, refusal, refuseIf, firstRefusal, rule1, rule2, rule15, rule3, rule4, rule5, rule6, rule7}
 use Rattle.calls.specs.Calls.{clear, rearrangerChecks, factorChecks}
-use Rattle.calls.proofs.Refusals.{first-passes, finite-rule}
+use Rattle.calls.proofs.Refusals.{is-not-not, refuse-not, first-passes, finite-rule}
 
 pub rule1-passes : (n : ℕ) → n ≤ maxOrder → rule1 n ≡ success
 unfolding rule1
@@ -32,6 +34,10 @@ rule2-passes call b low high =
     go : (c : Bool) → refuseIf (c && (false || false)) (refusal 2 0 zero64) ≡ success
     go true = refl
     go false = refl
+
+pub rule15-passes : (call : Call) (state : ℕ) → T (suits (next call state)) → rule15 call state ≡ success
+unfolding rule15
+rule15-passes call state h = refuse-not (not (suits (next call state))) (refusal 15 0 zero64) (is-not-not (suits (next call state)) h)
 
 pub rule3-passes : (n l : ℕ) → l ≡ triangle n → rule3 n l ≡ success
 unfolding rule3
@@ -49,35 +55,42 @@ pub rule6-passes : (n m l : ℕ) → l ≡ n * m → rule6 n m l ≡ success
 unfolding rule6
 rule6-passes n m l e = ap (λ c. refuseIf (not c) (refusal 6 0 zero64)) (eq-eqb l (n * m) e)
 
--- ---- rules 1 to 4 together
+-- ---- rules 1 to 4 and 15 together
 
--- a shape within its bounds, a matrix of its length and work enough for the call
-pub record Sizes (call : Call) (n b matrixLength workLength : ℕ) : Type 0 where
-  pub order : n ≤ maxOrder
-  pub blockLow : 1 ≤ b
-  pub blockHigh : b ≤ maxBlock
-  pub matrix : matrixLength ≡ triangle n
-  pub work : neededWork call n b ≤ workLength
+-- a shape within its bounds and in a state that suits the call, a matrix of its length and work enough for the call
+pub record Sizes (call : Call) (shape : Shape) (matrixLength workLength : ℕ) : Type 0 where
+  pub order : shape .order ≤ maxOrder
+  pub blockLow : 1 ≤ shape .block
+  pub blockHigh : shape .block ≤ maxBlock
+  pub state : T (suits (next call (shape .state)))
+  pub matrix : matrixLength ≡ triangle (shape .order)
+  pub work : neededWork call (shape .order) (shape .block) ≤ workLength
 
-pub sizes-pass :
-    (call : Call) (n b ml wl : ℕ) (rest : List Verdict) → Sizes call n b ml wl →
-    firstRefusal (rule1 n ∷ rule2 call b ∷ rule3 n ml ∷ rule4 call n b wl ∷ rest) ≡ firstRefusal rest
-sizes-pass call n b ml wl rest s =
-    first-passes (rule1 n) (rule2 call b ∷ rule3 n ml ∷ rule4 call n b wl ∷ rest) (rule1-passes n (s .order))
-    ∙ first-passes (rule2 call b) (rule3 n ml ∷ rule4 call n b wl ∷ rest) (rule2-passes call b (s .blockLow) (s .blockHigh))
-    ∙ first-passes (rule3 n ml) (rule4 call n b wl ∷ rest) (rule3-passes n ml (s .matrix))
-    ∙ first-passes (rule4 call n b wl) rest (rule4-passes call n b wl (s .work))
+module _ (call : Call) (shape : Shape) (ml wl : ℕ) where
+  abbrev pub sizeRules : List Verdict
+  sizeRules =
+      rule1 (shape .order) ∷ rule2 call (shape .block) ∷ rule15 call (shape .state) ∷ rule3 (shape .order) ml
+      ∷ rule4 call (shape .order) (shape .block) wl ∷ []
 
-pub rearranger-checks : (n b ml wl : ℕ) → Sizes Rearranger n b ml wl → rearrangerChecks n b ml wl ≡ success
+  pub sizes-pass : (rest : List Verdict) → Sizes call shape ml wl → firstRefusal (sizeRules ++ rest) ≡ firstRefusal rest
+  sizes-pass rest s =
+      first-passes _ _ (rule1-passes (shape .order) (s .order))
+      ∙ first-passes _ _ (rule2-passes call (shape .block) (s .blockLow) (s .blockHigh))
+      ∙ first-passes _ _ (rule15-passes call (shape .state) (s .state))
+      ∙ first-passes _ _ (rule3-passes (shape .order) ml (s .matrix))
+      ∙ first-passes _ _ (rule4-passes call (shape .order) (shape .block) wl (s .work))
+
+pub rearranger-checks :
+    (from to : Layout) (shape : Shape) (ml wl : ℕ) → Sizes (Rearranger from to) shape ml wl → rearrangerChecks from to shape ml wl ≡ success
 unfolding rearrangerChecks firstRefusal
-rearranger-checks n b ml wl s = sizes-pass Rearranger n b ml wl [] s
+rearranger-checks from to shape ml wl s = sizes-pass (Rearranger from to) shape ml wl [] s
 
 pub factor-checks :
-    (layout : Layout) (n b : ℕ) (matrix : List Float) (wl : ℕ) → Sizes (Factor layout) n b (length matrix) wl → T (all finite matrix) →
-    factorChecks layout n b matrix wl ≡ success
+    (layout : Layout) (shape : Shape) (matrix : List Float) (wl : ℕ) → Sizes (Factor layout) shape (length matrix) wl → T (all finite matrix) →
+    factorChecks layout shape matrix wl ≡ success
 unfolding factorChecks firstRefusal
-factor-checks layout n b matrix wl s f =
-    sizes-pass (Factor layout) n b (length matrix) wl (rule7 matrix ∷ []) s
+factor-checks layout shape matrix wl s f =
+    sizes-pass (Factor layout) shape (length matrix) wl (rule7 matrix ∷ []) s
     ∙ first-passes (rule7 matrix) [] (finite-rule 7 matrix f)
 
 -- ---- clearing keeps the length

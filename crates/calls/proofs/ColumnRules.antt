@@ -17,6 +17,7 @@ use Rattle.binary64.specs.Judged.{judged}
 use Rattle.binary64.specs.declared.Pivot.the-variants.{Root, Refused}
 use Rattle.calls.specs.declared.Verdict.{Verdict}
 use Rattle.calls.specs.Refusals.{success, accepted, refusal, firstRefusal, rule10, rule11, weak, rule16, columnRules}
+use Rattle.calls.specs.Calls.{spends}
 use Rattle.calls.proofs.Judging.{first-success}
 
 -- ---- a pivot
@@ -80,6 +81,13 @@ module _ (j : ℕ) (x : Float) where
   not-finite true true = refl
   not-finite true false = refl
 
+  spent : (p w f : Bool) → accepted (outcome p w f) ≡ false → spends (outcome p w f) ≡ true
+  unfolding outcome
+  spent false w f e = refl
+  spent true true f e = refl
+  spent true false false e = refl
+  spent true false true e = absurd (subst T e tt)
+
   passed : (p w f : Bool) → T (accepted (outcome p w f)) → T p × T f
   unfolding outcome
   passed false w f t = absurd t
@@ -135,6 +143,10 @@ module _ (j : ℕ) (entered x : Float) where
   -- and nothing is accepted with others
   pub rules-not-finite : accepted (columnRules j entered x false) ≡ false
   rules-not-finite = rw (rules-are false) (not-finite j x (positive x) (weak entered x))
+
+  -- what is refused spends the matrix
+  pub rules-spend : (f : Bool) → accepted (columnRules j entered x f) ≡ false → spends (columnRules j entered x f) ≡ true
+  rules-spend f e = rw (rules-are f) (spent j x (positive x) (weak entered x) f (rw (rules-are f) at e))
 
   -- a refused pivot decides, whatever is below it
   pub rules-refused : (v : Float) (f : Bool) → judged x ≡ Refused v → columnRules j entered x f ≡ refusal 10 j v

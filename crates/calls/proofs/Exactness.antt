@@ -14,6 +14,7 @@ use Rattle.binary64.specs.Root.{magnitude, scaled, squaresTo, exact}
 use Rattle.binary64.specs.Judged.{exactRoot}
 use Rattle.binary64.proofs.RootLaws.{exact-is}
 use Rattle.shape.specs.Layouts.{Bijection}
+use Rattle.shape.specs.declared.Shape.{Shape}
 use Rattle.calls.specs.declared.CallResult.{CallResult}
 use Rattle.calls.specs.declared.Layout.{Layout}
 use Rattle.calls.specs.declared.Call.the-variants.{Factor}
@@ -80,32 +81,38 @@ module _ (n : ℕ) (a : Triangle) (given : FiniteMatrix n a) (passed : T (accept
 
 -- ---- the call
 
-module _ (layout : Layout) (n b : ℕ) (matrix work : List Float) (v : T (all (fits binary64) matrix)) where
+module _ (layout : Layout) (shape : Shape) (matrix work : List Float) (v : T (all (fits binary64) matrix)) where
+  abbrev n : ℕ
+  n = shape .order
+
+  abbrev b : ℕ
+  b = shape .block
+
   abbrev a : Triangle
   a = load (placeOf layout n b) (height n) n matrix
 
   abbrev checks : Bool
-  checks = accepted (factorChecks layout n b matrix (length work))
+  checks = accepted (factorChecks layout shape matrix (length work))
 
   given-matrix : T checks → FiniteMatrix n a
   given-matrix t =
-      let known : FactorAccepted layout n b matrix (length work) = factor-accepted layout n b matrix (length work) t in
+      let known : FactorAccepted layout shape matrix (length work) = factor-accepted layout shape matrix (length work) t in
       let bij : Bijection (placeOf layout n b) n =
       place-bijection layout n b (λ e. known .sizes .blockLow (subst (λ l. T (byBlocks (Factor l))) (sym e) tt))
       in
       finite-matrix (placeOf layout n b) n bij matrix (known .sizes .matrix) v (known .matrixFinite)
 
-  result-passed : checks ≡ true → factorize layout n b matrix work .result ≡ judgedResult (columnsJudged n a)
+  result-passed : checks ≡ true → factorize layout shape matrix work .result ≡ judgedResult (Factor layout) shape (columnsJudged n a)
   unfolding factorize factored
   result-passed e = rw e refl
 
-  result-refused : checks ≡ false → factorize layout n b matrix work .result ≡ resultOf (factorChecks layout n b matrix (length work))
-  result-refused e = sym (factor-refused layout n b matrix work (factorChecks layout n b matrix (length work)) refl e .result)
+  result-refused : checks ≡ false → factorize layout shape matrix work .result ≡ resultOf (Factor layout) shape (factorChecks layout shape matrix (length work))
+  result-refused e = sym (factor-refused layout shape matrix work (factorChecks layout shape matrix (length work)) refl e .result)
 
-  exact-squared : T (factorize layout n b matrix work .result .exact) → AllExact n a (factorize layout n b matrix work .result)
+  exact-squared : T (factorize layout shape matrix work .result .exact) → AllExact n a (factorize layout shape matrix work .result)
   exact-squared t = go checks refl
     where
-      go : (c : Bool) → checks ≡ c → AllExact n a (factorize layout n b matrix work .result)
+      go : (c : Bool) → checks ≡ c → AllExact n a (factorize layout shape matrix work .result)
       go false e = absurd (subst (λ (r : CallResult). T (r .exact)) (result-refused e) t)
       go true e =
           let both : T (accepted (columnsVerdict n a) && columnsExact n a) = subst (λ (r : CallResult). T (r .exact)) (result-passed e) t in
@@ -115,10 +122,10 @@ module _ (layout : Layout) (n b : ℕ) (matrix work : List Float) (v : T (all (f
             squared = all-squares n a (given-matrix (rw e tt)) passed (and-r (accepted (columnsVerdict n a)) (columnsExact n a) both);
           }
 
-  squared-exact : AllExact n a (factorize layout n b matrix work .result) → T (factorize layout n b matrix work .result .exact)
+  squared-exact : AllExact n a (factorize layout shape matrix work .result) → T (factorize layout shape matrix work .result .exact)
   squared-exact s = go checks refl
     where
-      go : (c : Bool) → checks ≡ c → T (factorize layout n b matrix work .result .exact)
+      go : (c : Bool) → checks ≡ c → T (factorize layout shape matrix work .result .exact)
       go false e = absurd (subst T e (subst (λ (r : CallResult). T (succeeded r)) (result-refused e) (s .accepts)))
       go true e =
           let passed : T (accepted (columnsVerdict n a)) = subst (λ (r : CallResult). T (succeeded r)) (result-passed e) (s .accepts) in
@@ -127,6 +134,6 @@ module _ (layout : Layout) (n b : ℕ) (matrix work : List Float) (v : T (all (f
 
   -- yes if and only if the factor accepts and the square of every l(j,j) is the pivot
   pub exact-iff :
-      (T (factorize layout n b matrix work .result .exact) → AllExact n a (factorize layout n b matrix work .result))
-      × (AllExact n a (factorize layout n b matrix work .result) → T (factorize layout n b matrix work .result .exact))
+      (T (factorize layout shape matrix work .result .exact) → AllExact n a (factorize layout shape matrix work .result))
+      × (AllExact n a (factorize layout shape matrix work .result) → T (factorize layout shape matrix work .result .exact))
   exact-iff = (exact-squared, squared-exact)

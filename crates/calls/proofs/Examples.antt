@@ -1,6 +1,7 @@
 -- Document 01's P examples as one table, each row under its own line of text, and rows that tell orders of rounding apart. One proposition covers
 -- them all. Values stand as bit patterns. Assumes nothing.
 use Prim.Native.Nat.{ℕ, _+_}
+use mathlib.Core.Path.{_≡_, fun-ext, subst}
 use mathlib.Core.Bool.{Bool, true, false, cond, not, _&&_}
 use mathlib.Core.List.{List, [], _∷_, _++_, map}
 use lib.Dec.{T, eqb}
@@ -10,17 +11,22 @@ use Rattle.binary64.specs.Kinds.{kind, finite, positive}
 use Rattle.binary64.specs.Root.{root, squaresTo, exact}
 use Rattle.binary64.specs.Judged.{judged}
 use Rattle.shape.specs.Places.{triangle, packedPlace, blockedPlace, blockWork}
+use Rattle.shape.specs.declared.Shape.{Shape}
 use Rattle.calls.specs.declared.CallResult.{CallResult}
 use Rattle.calls.specs.declared.Verdict.{Verdict}
+use Rattle.calls.specs.declared.Judgement.{Judgement}
+use Rattle.calls.specs.declared.states.State.the-variants.{Raw, Factored}
 use Rattle.calls.specs.declared.Layout.{Layout}
 use Rattle.calls.specs.declared.Layout.the-variants.{Packed, Blocked}
 use Rattle.calls.specs.Sequences.{iterate, grow, tabulate, all, every}
 use Rattle.calls.specs.Triangles.{entry, height, placeOf, load, storeColumn, store}
 use Rattle.calls.specs.Arithmetic.{minusProducts, pivot, quotient, below, factorColumn, cholesky, forward, backwardRows, backward}
-use Rattle.calls.specs.Refusals.{firstRefusal, lowestRefusal, rule1, rule2, rule3, rule4, rule5, rule6, finiteRule, rule9, rule11, weak, rule16, columnRules, columnVerdict, columnExact, rule12}
-use Rattle.calls.specs.Calls.{resultOf, clear, rearrangerChecks, moved, rearrange, factorChecks, columnsVerdict, columnsExact, factored, factorize, solverChecks, rhsPart, solution, rhsVerdict, solutions, solved, solve}
+use Rattle.calls.specs.Refusals.{firstRefusal, lowestRefusal, rule1, rule2, rule15, rule3, rule4, rule5, rule6, finiteRule, rule9, rule11, weak, rule16, columnRules, columnVerdict, columnExact, rule12}
+use Rattle.calls.specs.States.{stateNumber, lookUp}
+use Rattle.calls.specs.Calls.{Done, stateAfter, answer, clear, rearrangerChecks, moved, rearrange, factorChecks, columnsVerdict, columnsExact, factored, factorize, solverChecks, rhsPart, solution, rhsVerdict, solutions, solved, solve}
 use Rattle.calls.specs.Pipelines.{Ended, plainPipeline, blockedPipeline}
 use Rattle.calls.proofs.FactorsBy.{factorizeBy}
+use Rattle.calls.proofs.Stepwise.{shapeIn, force, plainStepwise, plain-stepwise, blockedStepwise, blocked-stepwise}
 use Rattle.calls.proofs.WeakFirst.{overflowFirst}
 
 -- ---- bit patterns
@@ -145,14 +151,29 @@ someInexact = (0, 0, 0, false)
 abbrev success : Answer
 success = (0, 0, 0, false)
 
+judgedAs : Judgement → Answer → Bool
+judgedAs j expected =
+    eqb (j .verdict .code) (expected .0) && eqb (j .verdict .place) (expected .1) && eqb (toBits binary64 (j .verdict .value)) (expected .2)
+    && cond (expected .3) (j .exact) (not (j .exact))
+
 gives : CallResult → Answer → Bool
-gives r answer =
-    eqb (r .code) (answer .0) && eqb (r .place) (answer .1) && eqb (toBits binary64 (r .value)) (answer .2)
-    && cond (answer .3) (r .exact) (not (r .exact))
+unfolding judgedAs
+gives r expected = judgedAs (answer r) expected
 
 decides : Verdict → Answer → Bool
-unfolding gives
-decides v answer = gives (resultOf v) answer
+unfolding judgedAs
+decides v expected = judgedAs (record { verdict = v; exact = false }) expected
+
+-- ---- shapes
+
+abbrev raw : Layout → ℕ → ℕ → Shape
+raw layout n b = shapeIn (stateNumber (Raw layout)) n b
+
+abbrev factor : Layout → ℕ → ℕ → Shape
+factor layout n b = shapeIn (stateNumber (Factored layout)) n b
+
+sameShape : Shape → Shape → Bool
+sameShape s t = eqb (s .order) (t .order) && eqb (s .block) (t .block) && eqb (s .state) (t .state)
 
 -- work memory of one value more than is needed, none of them zero, and what a call leaves there
 used : ℕ → List Float
@@ -164,63 +185,81 @@ cleared needed = replicate needed 0 ++ (infinity ∷ [])
 
 -- ---- the tests of a row
 
--- from to n b needed matrix; the matrix afterwards
+-- from to n b needed matrix; the raw matrix afterwards
 moves : Layout → Layout → ℕ → ℕ → ℕ → List ℕ → List ℕ → Bool
-unfolding memory holds gives used cleared
+unfolding memory holds gives sameShape used cleared
 moves from to n b needed matrix after =
-    let d = rearrange from to n b (memory matrix) (used needed) in
-    gives (d .result) success && holds (d .matrix) after && holds (d .work) (cleared needed)
+    let d = rearrange from to (raw from n b) (memory matrix) (used needed) in
+    gives (d .result) success && sameShape (d .result .shape) (raw to n b) && holds (d .matrix) after && holds (d .work) (cleared needed)
 
--- layout n b needed matrix; the result and the matrix afterwards
+-- layout n b needed matrix; the result and the matrix afterwards, which is spent where a column is refused
 factors : Layout → ℕ → ℕ → ℕ → List ℕ → Answer → List ℕ → Bool
-unfolding memory holds gives used cleared
+unfolding memory holds gives sameShape used cleared
 factors layout n b needed matrix answer after =
-    let d = factorize layout n b (memory matrix) (used needed) in
-    gives (d .result) answer && holds (d .matrix) after && holds (d .work) (cleared needed)
+    let d = factorize layout (raw layout n b) (memory matrix) (used needed) in
+    gives (d .result) answer && sameShape (d .result .shape) (cond (eqb (answer .0) 0) (factor layout n b) (shapeIn 4 n b)) && holds (d .matrix) after
+    && holds (d .work) (cleared needed)
 
--- layout n b m factor rhs; the result and the right-hand sides afterwards
+-- layout n b m l rhs; the result and the right-hand sides afterwards
 solves : Layout → ℕ → ℕ → ℕ → List ℕ → List ℕ → Answer → List ℕ → Bool
-unfolding memory holds gives used cleared
-solves layout n b m factor rhs answer after =
-    let d = solve layout n b m (memory factor) (memory rhs) (used n) in
-    gives (d .result) answer && holds (d .rhs) after && holds (d .work) (cleared n)
+unfolding memory holds gives sameShape used cleared
+solves layout n b m l rhs answer after =
+    let d = solve layout (factor layout n b) m (memory l) (memory rhs) (used n) in
+    gives (d .result) answer && sameShape (d .result .shape) (factor layout n b) && holds (d .rhs) after && holds (d .work) (cleared n)
 
--- The same calls refused by a check, with work memory of any length: the result, and all memory as it was.
+-- The same calls refused by a check, with work memory of any length: the result, and the shape and all memory as they were.
 moveRefused : Layout → Layout → ℕ → ℕ → List ℕ → List ℕ → Answer → Bool
-unfolding memory holds gives
+unfolding memory holds gives sameShape
 moveRefused from to n b matrix work answer =
-    let d = rearrange from to n b (memory matrix) (memory work) in
-    gives (d .result) answer && holds (d .matrix) matrix && holds (d .work) work
+    let d = rearrange from to (raw from n b) (memory matrix) (memory work) in
+    gives (d .result) answer && sameShape (d .result .shape) (raw from n b) && holds (d .matrix) matrix && holds (d .work) work
 
 factorRefused : Layout → ℕ → ℕ → List ℕ → List ℕ → Answer → Bool
-unfolding memory holds gives
+unfolding memory holds gives sameShape
 factorRefused layout n b matrix work answer =
-    let d = factorize layout n b (memory matrix) (memory work) in
-    gives (d .result) answer && holds (d .matrix) matrix && holds (d .work) work
+    let d = factorize layout (raw layout n b) (memory matrix) (memory work) in
+    gives (d .result) answer && sameShape (d .result .shape) (raw layout n b) && holds (d .matrix) matrix && holds (d .work) work
 
 solveRefused : Layout → ℕ → ℕ → ℕ → List ℕ → List ℕ → List ℕ → Answer → Bool
-unfolding memory holds gives
-solveRefused layout n b m factor rhs work answer =
-    let d = solve layout n b m (memory factor) (memory rhs) (memory work) in
-    gives (d .result) answer && holds (d .rhs) rhs && holds (d .work) work
+unfolding memory holds gives sameShape
+solveRefused layout n b m l rhs work answer =
+    let d = solve layout (factor layout n b) m (memory l) (memory rhs) (memory work) in
+    gives (d .result) answer && sameShape (d .result .shape) (factor layout n b) && holds (d .rhs) rhs && holds (d .work) work
 
--- a pipeline: needed; the factor's and the solver's result, the matrix and the right-hand sides at its end
-ends : Ended → ℕ → Answer → Answer → List ℕ → List ℕ → Bool
-unfolding holds gives cleared
-ends e needed factor solver matrix rhs =
-    gives (e .factorResult) factor && gives (e .solverResult) solver && holds (e .matrix) matrix && holds (e .rhs) rhs
-    && holds (e .work) (cleared needed)
+-- a call of a state, with the states from one on: the code that each gives, and the state returned
+statesAre : (ℕ → CallResult) → ℕ → List (ℕ × ℕ) → Bool
+statesAre call state [] = true
+statesAre call state (e ∷ es) = eqb (call state .code) (e .0) && eqb (call state .shape .state) (e .1) && statesAre call (state + 1) es
 
--- b needed: the job of document 01 on both pipelines, its factor in packed order and its solution
-job : ℕ → ℕ → Bool
+-- a rearranger or factor refused by 15: the state, and all memory as it was
+unsuited : Done → ℕ → List ℕ → List ℕ → Bool
+unfolding holds gives
+unsuited d state matrix work = gives (d .result) (15, 0, 0, false) && eqb (d .result .shape .state) state && holds (d .matrix) matrix && holds (d .work) work
+
+-- a pipeline of order n and block length b: needed; the state of both results and that at the end; the factor's and the solver's answer, the matrix and the
+-- right-hand sides
+ends : Ended → ℕ → ℕ → ℕ → ℕ → ℕ → Answer → Answer → List ℕ → List ℕ → Bool
+unfolding holds gives sameShape cleared
+ends e n b needed returned state factor solver matrix rhs =
+    sameShape (e .factorResult .shape) (shapeIn returned n b) && sameShape (e .solverResult .shape) (shapeIn returned n b) && sameShape (e .shape) (shapeIn state n b)
+    && gives (e .factorResult) factor && gives (e .solverResult) solver && holds (e .matrix) matrix && holds (e .rhs) rhs && holds (e .work) (cleared needed)
+
+-- a pipeline whose first call is refused: the answer, and the shape and all memory as they were
+refuses : Ended → ℕ → ℕ → Answer → List ℕ → List ℕ → List ℕ → Bool
+unfolding holds gives sameShape
+refuses e n b answer matrix rhs work =
+    sameShape (e .factorResult .shape) (shapeIn 0 n b) && sameShape (e .solverResult .shape) (shapeIn 0 n b) && sameShape (e .shape) (shapeIn 0 n b)
+    && gives (e .factorResult) answer && gives (e .solverResult) answer && holds (e .matrix) matrix && holds (e .rhs) rhs && holds (e .work) work
+
+abbrev Pipeline : Type 0
+Pipeline = ℕ → ℕ → ℕ → List Float → List Float → List Float → Ended
+
+-- b needed returned: the job of document 01, its factor in packed order and its solution
+job : Pipeline → ℕ → ℕ → ℕ → Bool
 unfolding memory used ends
-job b needed =
-    let matrix = memory (four ∷ two ∷ minusTwo ∷ ten ∷ five ∷ six ∷ []) in
-    let rhs = memory (four ∷ seventeen ∷ nine ∷ []) in
-    let factor = two ∷ one ∷ minusOne ∷ three ∷ two ∷ one ∷ [] in
-    let x = one ∷ one ∷ one ∷ [] in
-    ends (plainPipeline 3 b 1 matrix rhs (used 3)) 3 allExact success factor x
-    && ends (blockedPipeline 3 b 1 matrix rhs (used needed)) needed allExact success factor x
+job pipeline b needed returned =
+    ends (pipeline 3 b 1 (memory (four ∷ two ∷ minusTwo ∷ ten ∷ five ∷ six ∷ [])) (memory (four ∷ seventeen ∷ nine ∷ [])) (used needed)) 3 b needed returned 2 allExact success
+    (two ∷ one ∷ minusOne ∷ three ∷ two ∷ one ∷ []) (one ∷ one ∷ one ∷ [])
 
 -- n b i j; the place
 at : ℕ → ℕ → ℕ → ℕ → ℕ → Bool
@@ -241,15 +280,15 @@ judges entered p finiteBelow answer = decides (columnRules 3 (ofBits binary64 en
 -- ---- the table
 
 pub rows : List Bool
-unfolding moves factors solves moveRefused factorRefused solveRefused ends job at hasRoot isWeak judges gives decides memory used
+unfolding moves factors solves moveRefused factorRefused solveRefused statesAre unsuited sameShape holds at hasRoot isWeak judges gives decides memory used
 rows =
     -- n 0, empty memory: success.
-    gives (rearrange Packed Blocked 0 1 [] [] .result) success
-    ∷ gives (rearrange Blocked Packed 0 1 [] [] .result) success
-    ∷ gives (factorize Packed 0 1 [] [] .result) allExact
-    ∷ gives (factorize Blocked 0 1 [] [] .result) allExact
-    ∷ gives (solve Packed 0 1 0 [] [] [] .result) success
-    ∷ gives (solve Blocked 0 1 0 [] [] [] .result) success
+    gives (rearrange Packed Blocked (raw Packed 0 1) [] [] .result) success
+    ∷ gives (rearrange Blocked Packed (raw Blocked 0 1) [] [] .result) success
+    ∷ gives (factorize Packed (raw Packed 0 1) [] [] .result) allExact
+    ∷ gives (factorize Blocked (raw Blocked 0 1) [] [] .result) allExact
+    ∷ gives (solve Packed (factor Packed 0 1) 0 [] [] [] .result) success
+    ∷ gives (solve Blocked (factor Blocked 0 1) 0 [] [] [] .result) success
     ∷ moves Packed Blocked 0 1 0 [] []
     ∷ moves Blocked Packed 0 1 0 [] []
     ∷ factors Packed 0 1 0 [] allExact []
@@ -265,11 +304,7 @@ rows =
     ∷ factors Blocked 1 1 1 (0 ∷ []) (10, 0, 0, false) (0 ∷ [])
     ∷ factors Packed 1 1 1 (minusZero ∷ []) (10, 0, minusZero, false) (minusZero ∷ [])
     ∷ factors Blocked 1 1 1 (minusZero ∷ []) (10, 0, minusZero, false) (minusZero ∷ [])
-    -- the job above, with b 1, 2, 3 and 200; its blocked factor for b 2 is 2, 1, 3, −1, 2, 1.
-    ∷ job 1 3
-    ∷ job 2 6
-    ∷ job 3 9
-    ∷ job 200 9
+    -- the job above, with b 2, call by call: its blocked factor is 2, 1, 3, −1, 2, 1.
     ∷ factors Packed 3 2 3 (four ∷ two ∷ minusTwo ∷ ten ∷ five ∷ six ∷ []) allExact (two ∷ one ∷ minusOne ∷ three ∷ two ∷ one ∷ [])
     ∷ moves Packed Blocked 3 2 6 (four ∷ two ∷ minusTwo ∷ ten ∷ five ∷ six ∷ []) (four ∷ two ∷ ten ∷ minusTwo ∷ five ∷ six ∷ [])
     ∷ factors Blocked 3 2 6 (four ∷ two ∷ ten ∷ minusTwo ∷ five ∷ six ∷ []) allExact (two ∷ one ∷ three ∷ minusOne ∷ two ∷ one ∷ [])
@@ -341,11 +376,6 @@ rows =
     ∷ factors Packed 3 2 3 (four ∷ two ∷ minusTwo ∷ ten ∷ five ∷ fivePlus ∷ []) (16, 2, twoToMinus50, false) (two ∷ one ∷ minusOne ∷ three ∷ two ∷ fivePlus ∷ [])
     ∷ factors Blocked 3 2 6 (four ∷ two ∷ ten ∷ minusTwo ∷ five ∷ fivePlus ∷ []) (16, 2, twoToMinus50, false) (two ∷ one ∷ three ∷ minusOne ∷ two ∷ fivePlus ∷ [])
     ∷ factors Blocked 3 3 9 (four ∷ two ∷ ten ∷ minusTwo ∷ five ∷ fivePlus ∷ []) (16, 2, twoToMinus50, false) (four ∷ two ∷ ten ∷ minusTwo ∷ five ∷ fivePlus ∷ [])
-    -- It ends its pipeline.
-    ∷ ends (plainPipeline 2 2 1 (memory (four ∷ two ∷ onePlus ∷ [])) (memory (four ∷ six ∷ [])) (used 2)) 2
-    (16, 1, twoToMinus52, false) (16, 1, twoToMinus52, false) (two ∷ one ∷ onePlus ∷ []) (four ∷ six ∷ [])
-    ∷ ends (blockedPipeline 2 2 1 (memory (four ∷ two ∷ onePlus ∷ [])) (memory (four ∷ six ∷ [])) (used 4)) 4
-    (16, 1, twoToMinus52, false) (16, 1, twoToMinus52, false) (four ∷ two ∷ onePlus ∷ []) (four ∷ six ∷ [])
     -- One before a column refused by 10 decides, and before one that overflows; one after either does not.
     ∷ factors Packed 3 2 3 (one ∷ one ∷ 0 ∷ onePlus ∷ 0 ∷ minusOne ∷ []) (16, 1, twoToMinus52, false) (one ∷ one ∷ 0 ∷ onePlus ∷ 0 ∷ minusOne ∷ [])
     ∷ factors Blocked 3 3 9 (one ∷ one ∷ onePlus ∷ 0 ∷ 0 ∷ minusOne ∷ []) (16, 1, twoToMinus52, false) (one ∷ one ∷ onePlus ∷ 0 ∷ 0 ∷ minusOne ∷ [])
@@ -365,13 +395,49 @@ rows =
     ∷ factors Blocked 3 1 3 (four ∷ two ∷ 0 ∷ onePlus ∷ twoTo1000 ∷ one ∷ []) (16, 1, twoToMinus52, false) (two ∷ one ∷ 0 ∷ onePlus ∷ twoTo1000 ∷ one ∷ [])
     ∷ factors Blocked 3 2 6 (four ∷ two ∷ onePlus ∷ 0 ∷ twoTo1000 ∷ one ∷ []) (16, 1, twoToMinus52, false) (four ∷ two ∷ onePlus ∷ 0 ∷ twoTo1000 ∷ one ∷ [])
     -- Under the former order it is 11.
-    ∷ gives (factorizeBy Packed 3 2 (memory (four ∷ two ∷ 0 ∷ onePlus ∷ twoTo1000 ∷ one ∷ [])) (used 3) overflowFirst .result) (11, 1, 0, false)
-    ∷ gives (factorizeBy Blocked 3 2 (memory (four ∷ two ∷ onePlus ∷ 0 ∷ twoTo1000 ∷ one ∷ [])) (used 6) overflowFirst .result) (11, 1, 0, false)
+    ∷ gives (factorizeBy Packed (raw Packed 3 2) (memory (four ∷ two ∷ 0 ∷ onePlus ∷ twoTo1000 ∷ one ∷ [])) (used 3) overflowFirst .result) (11, 1, 0, false)
+    ∷ gives (factorizeBy Blocked (raw Blocked 3 2) (memory (four ∷ two ∷ onePlus ∷ 0 ∷ twoTo1000 ∷ one ∷ [])) (used 6) overflowFirst .result) (11, 1, 0, false)
     -- Column 0 overflows, column 1 is weak and overflows: 11, place 0.
     ∷ factors Packed 3 2 3 (twoToMinus1000 ∷ twoToMinus500 ∷ twoTo600 ∷ onePlus ∷ 0 ∷ one ∷ []) (11, 0, 0, false)
     (twoToMinus1000 ∷ twoToMinus500 ∷ twoTo600 ∷ onePlus ∷ 0 ∷ one ∷ [])
     ∷ factors Blocked 3 2 6 (twoToMinus1000 ∷ twoToMinus500 ∷ onePlus ∷ twoTo600 ∷ 0 ∷ one ∷ []) (11, 0, 0, false)
     (twoToMinus1000 ∷ twoToMinus500 ∷ onePlus ∷ twoTo600 ∷ 0 ∷ one ∷ [])
+    -- ---- document 02, (b): every call with every state, and with one past the last.
+    ∷ statesAre (λ s. rearrange Packed Blocked (shapeIn s 1 1) (memory (four ∷ [])) (used 1) .result) 0
+    ((0, 1) ∷ (15, 1) ∷ (0, 3) ∷ (15, 3) ∷ (15, 4) ∷ (15, 5) ∷ [])
+    ∷ statesAre (λ s. rearrange Blocked Packed (shapeIn s 1 1) (memory (four ∷ [])) (used 1) .result) 0
+    ((15, 0) ∷ (0, 0) ∷ (15, 2) ∷ (0, 2) ∷ (15, 4) ∷ (15, 5) ∷ [])
+    ∷ statesAre (λ s. factorize Packed (shapeIn s 1 1) (memory (four ∷ [])) (used 1) .result) 0
+    ((0, 2) ∷ (15, 1) ∷ (15, 2) ∷ (15, 3) ∷ (15, 4) ∷ (15, 5) ∷ [])
+    ∷ statesAre (λ s. factorize Blocked (shapeIn s 1 1) (memory (four ∷ [])) (used 1) .result) 0
+    ((15, 0) ∷ (0, 3) ∷ (15, 2) ∷ (15, 3) ∷ (15, 4) ∷ (15, 5) ∷ [])
+    ∷ statesAre (λ s. solve Packed (shapeIn s 1 1) 1 (memory (two ∷ [])) (memory (four ∷ [])) (used 1) .result) 0
+    ((15, 0) ∷ (15, 1) ∷ (0, 2) ∷ (15, 3) ∷ (15, 4) ∷ (15, 5) ∷ [])
+    ∷ statesAre (λ s. solve Blocked (shapeIn s 1 1) 1 (memory (two ∷ [])) (memory (four ∷ [])) (used 1) .result) 0
+    ((15, 0) ∷ (15, 1) ∷ (15, 2) ∷ (0, 3) ∷ (15, 4) ∷ (15, 5) ∷ [])
+    -- 15 leaves all memory; it comes after 1 and 2, and before 3 and all later ones. The plain calls do not judge b.
+    ∷ unsuited (rearrange Packed Blocked (shapeIn 1 3 2) (memory (four ∷ two ∷ [])) (memory (infinity ∷ []))) 1 (four ∷ two ∷ []) (infinity ∷ [])
+    ∷ unsuited (rearrange Blocked Packed (shapeIn 4 3 2) (memory (four ∷ two ∷ [])) (memory (infinity ∷ []))) 4 (four ∷ two ∷ []) (infinity ∷ [])
+    ∷ unsuited (factorize Packed (shapeIn 2 3 2) (memory (four ∷ infinity ∷ [])) (memory (infinity ∷ []))) 2 (four ∷ infinity ∷ []) (infinity ∷ [])
+    ∷ unsuited (factorize Blocked (shapeIn 0 3 2) (memory (four ∷ infinity ∷ [])) (memory (infinity ∷ []))) 0 (four ∷ infinity ∷ []) (infinity ∷ [])
+    ∷ decides (rearrangerChecks Packed Blocked (shapeIn 4 4001 0) 0 0) (1, 0, 0, false)
+    ∷ decides (rearrangerChecks Packed Blocked (shapeIn 4 1 0) 0 0) (2, 0, 0, false)
+    ∷ decides (rearrangerChecks Blocked Packed (shapeIn 4 1 201) 0 0) (2, 0, 0, false)
+    ∷ decides (factorChecks Blocked (shapeIn 4 4001 0) [] 0) (1, 0, 0, false)
+    ∷ decides (factorChecks Blocked (shapeIn 4 1 0) [] 0) (2, 0, 0, false)
+    ∷ decides (factorChecks Packed (shapeIn 4 1 0) [] 0) (15, 0, 0, false)
+    ∷ decides (solverChecks Blocked (shapeIn 4 4001 0) 0 [] [] 0) (1, 0, 0, false)
+    ∷ decides (solverChecks Blocked (shapeIn 4 1 0) 0 [] [] 0) (2, 0, 0, false)
+    ∷ decides (solverChecks Packed (shapeIn 0 1 0) 1001 [] (memory (infinity ∷ [])) 0) (15, 0, 0, false)
+    ∷ decides (solverChecks Blocked (shapeIn 2 1 1) 1001 [] (memory (infinity ∷ [])) 0) (15, 0, 0, false)
+    -- Spent memory is refused of order 0 too, and without right-hand sides.
+    ∷ unsuited (rearrange Packed Blocked (shapeIn 4 0 1) [] (memory (infinity ∷ []))) 4 [] (infinity ∷ [])
+    ∷ unsuited (factorize Packed (shapeIn 4 0 1) [] (memory (infinity ∷ []))) 4 [] (infinity ∷ [])
+    ∷ decides (solverChecks Packed (shapeIn 0 0 1) 0 [] [] 0) (15, 0, 0, false)
+    ∷ decides (solverChecks Blocked (shapeIn 4 1 1) 0 (memory (two ∷ [])) [] 1) (15, 0, 0, false)
+    -- A factor moves as a raw matrix does, and stays a factor.
+    ∷ sameShape (rearrange Packed Blocked (factor Packed 3 2) (memory (two ∷ one ∷ minusOne ∷ three ∷ two ∷ one ∷ [])) (used 6) .result .shape) (factor Blocked 3 2)
+    ∷ holds (rearrange Packed Blocked (factor Packed 3 2) (memory (two ∷ one ∷ minusOne ∷ three ∷ two ∷ one ∷ [])) (used 6) .matrix) (two ∷ one ∷ three ∷ minusOne ∷ two ∷ one ∷ [])
     -- ---- beyond document 01's list
     -- What stays after 10: the plain factor keeps its finished columns, the blocked one its finished block columns.
     ∷ factors Packed 2 1 2 (four ∷ two ∷ one ∷ []) (10, 1, 0, false) (two ∷ one ∷ one ∷ [])
@@ -403,30 +469,30 @@ rows =
     -- The first x is 1 − 2^−54 − 1: +0 with falling k, −2^−54 with rising k.
     ∷ solves Packed 3 1 1 (one ∷ one ∷ twoToMinus54 ∷ one ∷ 0 ∷ one ∷ []) (one ∷ two ∷ one ∷ []) success (0 ∷ one ∷ one ∷ [])
     -- ---- codes 1 to 9, each where the rules before it pass
-    ∷ decides (rearrangerChecks 4001 201 0 0) (1, 0, 0, false)
-    ∷ decides (rearrangerChecks 4000 201 0 0) (2, 0, 0, false)
-    ∷ decides (rearrangerChecks 4000 0 0 0) (2, 0, 0, false)
-    ∷ decides (rearrangerChecks 4000 200 0 0) (3, 0, 0, false)
-    ∷ decides (rearrangerChecks 4000 200 8002000 799999) (4, 0, 0, false)
-    ∷ decides (rearrangerChecks 4000 200 8002000 800000) success
-    ∷ decides (factorChecks Packed 1 0 (memory (infinity ∷ [])) 0) (4, 0, 0, false)
-    ∷ decides (factorChecks Packed 1 0 (memory (infinity ∷ [])) 1) (7, 0, 0, false)
-    ∷ decides (solverChecks Packed 1 0 1001 (memory (two ∷ [])) [] 1) (5, 0, 0, false)
-    ∷ decides (solverChecks Packed 1 0 1000 (memory (two ∷ [])) [] 1) (6, 0, 0, false)
-    ∷ decides (solverChecks Blocked 3 2 0 (memory (one ∷ one ∷ one ∷ infinity ∷ one ∷ one ∷ [])) [] 3) (7, 3, 0, false)
-    ∷ decides (solverChecks Blocked 1 2 2 (memory (0 ∷ [])) (memory (one ∷ infinity ∷ [])) 1) (8, 1, 0, false)
-    ∷ decides (solverChecks Blocked 3 2 0 (memory (one ∷ 0 ∷ one ∷ 0 ∷ 0 ∷ 0 ∷ [])) [] 3) (9, 2, 0, false)
+    ∷ decides (rearrangerChecks Packed Blocked (shapeIn 0 4001 201) 0 0) (1, 0, 0, false)
+    ∷ decides (rearrangerChecks Packed Blocked (shapeIn 0 4000 201) 0 0) (2, 0, 0, false)
+    ∷ decides (rearrangerChecks Packed Blocked (shapeIn 0 4000 0) 0 0) (2, 0, 0, false)
+    ∷ decides (rearrangerChecks Packed Blocked (shapeIn 0 4000 200) 0 0) (3, 0, 0, false)
+    ∷ decides (rearrangerChecks Packed Blocked (shapeIn 0 4000 200) 8002000 799999) (4, 0, 0, false)
+    ∷ decides (rearrangerChecks Packed Blocked (shapeIn 0 4000 200) 8002000 800000) success
+    ∷ decides (factorChecks Packed (raw Packed 1 0) (memory (infinity ∷ [])) 0) (4, 0, 0, false)
+    ∷ decides (factorChecks Packed (raw Packed 1 0) (memory (infinity ∷ [])) 1) (7, 0, 0, false)
+    ∷ decides (solverChecks Packed (factor Packed 1 0) 1001 (memory (two ∷ [])) [] 1) (5, 0, 0, false)
+    ∷ decides (solverChecks Packed (factor Packed 1 0) 1000 (memory (two ∷ [])) [] 1) (6, 0, 0, false)
+    ∷ decides (solverChecks Blocked (factor Blocked 3 2) 0 (memory (one ∷ one ∷ one ∷ infinity ∷ one ∷ one ∷ [])) [] 3) (7, 3, 0, false)
+    ∷ decides (solverChecks Blocked (factor Blocked 1 2) 2 (memory (0 ∷ [])) (memory (one ∷ infinity ∷ [])) 1) (8, 1, 0, false)
+    ∷ decides (solverChecks Blocked (factor Blocked 3 2) 0 (memory (one ∷ 0 ∷ one ∷ 0 ∷ 0 ∷ 0 ∷ [])) [] 3) (9, 2, 0, false)
     -- Two rules that hold together, or one at two places: the first decides.
-    ∷ decides (factorChecks Blocked 4001 0 [] 0) (1, 0, 0, false)
-    ∷ decides (factorChecks Blocked 1 0 [] 1) (2, 0, 0, false)
-    ∷ decides (factorChecks Packed 1 1 [] 0) (3, 0, 0, false)
-    ∷ decides (solverChecks Blocked 4001 0 0 [] [] 0) (1, 0, 0, false)
-    ∷ decides (solverChecks Blocked 1 0 0 [] [] 0) (2, 0, 0, false)
-    ∷ decides (solverChecks Packed 1 1 0 [] [] 0) (3, 0, 0, false)
-    ∷ decides (solverChecks Packed 1 1 1001 (memory (two ∷ [])) [] 0) (4, 0, 0, false)
-    ∷ decides (solverChecks Packed 1 1 1 (memory (infinity ∷ [])) [] 1) (6, 0, 0, false)
-    ∷ decides (solverChecks Packed 1 1 1 (memory (infinity ∷ [])) (memory (infinity ∷ [])) 1) (7, 0, 0, false)
-    ∷ decides (solverChecks Packed 3 1 0 (memory (one ∷ one ∷ one ∷ 0 ∷ one ∷ 0 ∷ [])) [] 3) (9, 1, 0, false)
+    ∷ decides (factorChecks Blocked (raw Blocked 4001 0) [] 0) (1, 0, 0, false)
+    ∷ decides (factorChecks Blocked (raw Blocked 1 0) [] 1) (2, 0, 0, false)
+    ∷ decides (factorChecks Packed (raw Packed 1 1) [] 0) (3, 0, 0, false)
+    ∷ decides (solverChecks Blocked (factor Blocked 4001 0) 0 [] [] 0) (1, 0, 0, false)
+    ∷ decides (solverChecks Blocked (factor Blocked 1 0) 0 [] [] 0) (2, 0, 0, false)
+    ∷ decides (solverChecks Packed (factor Packed 1 1) 0 [] [] 0) (3, 0, 0, false)
+    ∷ decides (solverChecks Packed (factor Packed 1 1) 1001 (memory (two ∷ [])) [] 0) (4, 0, 0, false)
+    ∷ decides (solverChecks Packed (factor Packed 1 1) 1 (memory (infinity ∷ [])) [] 1) (6, 0, 0, false)
+    ∷ decides (solverChecks Packed (factor Packed 1 1) 1 (memory (infinity ∷ [])) (memory (infinity ∷ [])) 1) (7, 0, 0, false)
+    ∷ decides (solverChecks Packed (factor Packed 3 1) 0 (memory (one ∷ one ∷ one ∷ 0 ∷ one ∷ 0 ∷ [])) [] 3) (9, 1, 0, false)
     -- The whole calls: all memory stays as it was. Under 3 and 6 it is one value too long, under 4 one too short.
     ∷ moveRefused Packed Blocked 3 0 (four ∷ two ∷ minusTwo ∷ ten ∷ five ∷ six ∷ []) (replicate 9 infinity) (2, 0, 0, false)
     ∷ moveRefused Blocked Packed 3 0 (four ∷ two ∷ minusTwo ∷ ten ∷ five ∷ six ∷ []) (replicate 9 infinity) (2, 0, 0, false)
@@ -465,18 +531,6 @@ rows =
     (one ∷ two ∷ three ∷ infinity ∷ five ∷ six ∷ 0 ∷ minusZero ∷ nine ∷ ten ∷ minusOne ∷ minusTwo ∷ four ∷ minusInfinity ∷ fifteen ∷ [])
     -- A refused column in the last, narrower block column: the block column before it stays finished.
     ∷ factors Blocked 3 2 6 (four ∷ two ∷ ten ∷ minusTwo ∷ five ∷ 0 ∷ []) (10, 2, minusFive, false) (two ∷ one ∷ three ∷ minusOne ∷ two ∷ 0 ∷ [])
-    -- A factor refused at place 0 ends its pipeline too.
-    ∷ ends (plainPipeline 1 1 1 (memory (0 ∷ [])) (memory (one ∷ [])) (used 1)) 1 (10, 0, 0, false) (10, 0, 0, false) (0 ∷ []) (one ∷ [])
-    ∷ ends (blockedPipeline 1 1 1 (memory (0 ∷ [])) (memory (one ∷ [])) (used 1)) 1 (10, 0, 0, false) (10, 0, 0, false) (0 ∷ []) (one ∷ [])
-    -- A refused factor ends its pipeline, the blocked one in blocked order; after a refused solver the factor stands in packed order.
-    ∷ ends (plainPipeline 3 2 1 (memory (four ∷ two ∷ minusTwo ∷ ten ∷ five ∷ 0 ∷ [])) (memory (four ∷ seventeen ∷ nine ∷ [])) (used 3)) 3
-    (10, 2, minusFive, false) (10, 2, minusFive, false) (two ∷ one ∷ minusOne ∷ three ∷ two ∷ 0 ∷ []) (four ∷ seventeen ∷ nine ∷ [])
-    ∷ ends (blockedPipeline 3 2 1 (memory (four ∷ two ∷ minusTwo ∷ ten ∷ five ∷ 0 ∷ [])) (memory (four ∷ seventeen ∷ nine ∷ [])) (used 6)) 6
-    (10, 2, minusFive, false) (10, 2, minusFive, false) (two ∷ one ∷ three ∷ minusOne ∷ two ∷ 0 ∷ []) (four ∷ seventeen ∷ nine ∷ [])
-    ∷ ends (plainPipeline 3 2 1 (memory (four ∷ two ∷ minusTwo ∷ ten ∷ five ∷ six ∷ [])) (memory (four ∷ infinity ∷ nine ∷ [])) (used 3)) 3
-    allExact (8, 1, 0, false) (two ∷ one ∷ minusOne ∷ three ∷ two ∷ one ∷ []) (four ∷ infinity ∷ nine ∷ [])
-    ∷ ends (blockedPipeline 3 2 1 (memory (four ∷ two ∷ minusTwo ∷ ten ∷ five ∷ six ∷ [])) (memory (four ∷ infinity ∷ nine ∷ [])) (used 6)) 6
-    allExact (8, 1, 0, false) (two ∷ one ∷ minusOne ∷ three ∷ two ∷ one ∷ []) (four ∷ infinity ∷ nine ∷ [])
     -- 11 at column 1: column 0 stays finished unless it is of the same block column.
     ∷ factors Packed 3 1 3 (four ∷ 0 ∷ two ∷ twoToMinus1000 ∷ twoTo600 ∷ one ∷ []) (11, 1, 0, false)
     (two ∷ 0 ∷ one ∷ twoToMinus1000 ∷ twoTo600 ∷ one ∷ [])
@@ -492,6 +546,57 @@ rows =
     (one ∷ 0 ∷ one ∷ twoToMinus54 ∷ one ∷ one ∷ one ∷ one ∷ 0 ∷ 0x3FFB_B67A_E858_4CAA ∷ [])
     ∷ []
 
-pub examples-hold : T (all (λ r. r) rows)
-unfolding rows rearrange rearrangerChecks moved factorize factorChecks factored columnsVerdict columnsExact solve solverChecks solved rhsVerdict rhsPart solution solutions clear plainPipeline blockedPipeline firstRefusal lowestRefusal rule1 rule2 rule3 rule4 rule5 rule6 finiteRule rule9 rule11 weak rule16 columnRules columnVerdict columnExact rule12 minusProducts pivot quotient below factorColumn cholesky forward backwardRows backward iterate grow tabulate all every entry height placeOf load storeColumn store kind finite positive root squaresTo exact judged triangle packedPlace blockedPlace blockWork toBits ofBits mul sub div lt
-examples-hold = tt
+-- the rows of both pipelines
+pub pipelineRows : Pipeline → Pipeline → List Bool
+unfolding ends refuses job memory used
+pipelineRows plain blocked =
+    -- the job above, with b 1, 2, 3 and 200.
+    job plain 1 3 2
+    ∷ job plain 200 3 2
+    ∷ job blocked 1 3 3
+    ∷ job blocked 2 6 3
+    ∷ job blocked 3 9 3
+    ∷ job blocked 200 9 3
+    -- A weak column ends its pipeline.
+    ∷ ends (plain 2 2 1 (memory (four ∷ two ∷ onePlus ∷ [])) (memory (four ∷ six ∷ [])) (used 2)) 2 2 2 4 4
+    (16, 1, twoToMinus52, false) (16, 1, twoToMinus52, false) (two ∷ one ∷ onePlus ∷ []) (four ∷ six ∷ [])
+    ∷ ends (blocked 2 2 1 (memory (four ∷ two ∷ onePlus ∷ [])) (memory (four ∷ six ∷ [])) (used 4)) 2 2 4 4 4
+    (16, 1, twoToMinus52, false) (16, 1, twoToMinus52, false) (four ∷ two ∷ onePlus ∷ []) (four ∷ six ∷ [])
+    -- A factor refused at place 0 ends its pipeline too.
+    ∷ ends (plain 1 1 1 (memory (0 ∷ [])) (memory (one ∷ [])) (used 1)) 1 1 1 4 4 (10, 0, 0, false) (10, 0, 0, false) (0 ∷ []) (one ∷ [])
+    ∷ ends (blocked 1 1 1 (memory (0 ∷ [])) (memory (one ∷ [])) (used 1)) 1 1 1 4 4 (10, 0, 0, false) (10, 0, 0, false) (0 ∷ []) (one ∷ [])
+    -- A refused factor ends its pipeline, the blocked one in blocked order; after a refused solver the factor stands in packed order.
+    ∷ ends (plain 3 2 1 (memory (four ∷ two ∷ minusTwo ∷ ten ∷ five ∷ 0 ∷ [])) (memory (four ∷ seventeen ∷ nine ∷ [])) (used 3)) 3 2 3 4 4
+    (10, 2, minusFive, false) (10, 2, minusFive, false) (two ∷ one ∷ minusOne ∷ three ∷ two ∷ 0 ∷ []) (four ∷ seventeen ∷ nine ∷ [])
+    ∷ ends (blocked 3 2 1 (memory (four ∷ two ∷ minusTwo ∷ ten ∷ five ∷ 0 ∷ [])) (memory (four ∷ seventeen ∷ nine ∷ [])) (used 6)) 3 2 6 4 4
+    (10, 2, minusFive, false) (10, 2, minusFive, false) (two ∷ one ∷ three ∷ minusOne ∷ two ∷ 0 ∷ []) (four ∷ seventeen ∷ nine ∷ [])
+    ∷ ends (plain 3 2 1 (memory (four ∷ two ∷ minusTwo ∷ ten ∷ five ∷ six ∷ [])) (memory (four ∷ infinity ∷ nine ∷ [])) (used 3)) 3 2 3 2 2
+    allExact (8, 1, 0, false) (two ∷ one ∷ minusOne ∷ three ∷ two ∷ one ∷ []) (four ∷ infinity ∷ nine ∷ [])
+    ∷ ends (blocked 3 2 1 (memory (four ∷ two ∷ minusTwo ∷ ten ∷ five ∷ six ∷ [])) (memory (four ∷ infinity ∷ nine ∷ [])) (used 6)) 3 2 6 3 2
+    allExact (8, 1, 0, false) (two ∷ one ∷ minusOne ∷ three ∷ two ∷ one ∷ []) (four ∷ infinity ∷ nine ∷ [])
+    -- A refused rearranger ends its pipeline, with all memory and the state as they were: b 0, and a matrix of a wrong length.
+    ∷ refuses (blocked 1 0 1 (memory (four ∷ [])) (memory (one ∷ [])) (used 1)) 1 0 (2, 0, 0, false) (four ∷ []) (one ∷ []) (infinity ∷ infinity ∷ [])
+    ∷ refuses (blocked 1 1 1 (memory (four ∷ two ∷ [])) (memory (one ∷ [])) (used 1)) 1 1 (3, 0, 0, false) (four ∷ two ∷ []) (one ∷ []) (infinity ∷ infinity ∷ [])
+    ∷ refuses (plain 1 1 1 (memory (four ∷ two ∷ [])) (memory (one ∷ [])) (used 1)) 1 1 (3, 0, 0, false) (four ∷ two ∷ []) (one ∷ []) (infinity ∷ infinity ∷ [])
+    ∷ []
+
+rows-hold : T (all (λ r. r) rows)
+unfolding rows rearrange rearrangerChecks moved factorize factorChecks factored columnsVerdict columnsExact solve solverChecks solved rhsVerdict rhsPart solution solutions clear firstRefusal lowestRefusal stateAfter lookUp rule1 rule2 rule15 rule3 rule4 rule5 rule6 finiteRule rule9 rule11 weak rule16 columnRules columnVerdict columnExact rule12 minusProducts pivot quotient below factorColumn cholesky forward backwardRows backward iterate grow tabulate all every entry height placeOf load storeColumn store kind finite positive root squaresTo exact judged triangle packedPlace blockedPlace blockWork toBits ofBits mul sub div lt
+rows-hold = tt
+
+stepwise-hold : T (all (λ r. r) (pipelineRows plainStepwise blockedStepwise))
+unfolding pipelineRows plainStepwise blockedStepwise force rearrange rearrangerChecks moved factorize factorChecks factored columnsVerdict columnsExact solve solverChecks solved rhsVerdict rhsPart solution solutions clear firstRefusal lowestRefusal stateAfter lookUp rule1 rule2 rule15 rule3 rule4 rule5 rule6 finiteRule rule9 rule11 weak rule16 columnRules columnVerdict columnExact rule12 minusProducts pivot quotient below factorColumn cholesky forward backwardRows backward iterate grow tabulate all every entry height placeOf load storeColumn store kind finite positive root squaresTo exact judged triangle packedPlace blockedPlace blockWork toBits ofBits mul sub div lt
+stepwise-hold = tt
+
+plain-is : plainStepwise ≡ plainPipeline
+plain-is = fun-ext (λ n. fun-ext (λ b. fun-ext (λ m. fun-ext (λ matrix. fun-ext (λ rhs. fun-ext (λ work. plain-stepwise n b m matrix rhs work))))))
+
+blocked-is : blockedStepwise ≡ blockedPipeline
+blocked-is = fun-ext (λ n. fun-ext (λ b. fun-ext (λ m. fun-ext (λ matrix. fun-ext (λ rhs. fun-ext (λ work. blocked-stepwise n b m matrix rhs work))))))
+
+pub examples-hold : T (all (λ r. r) rows) × T (all (λ r. r) (pipelineRows plainPipeline blockedPipeline))
+examples-hold = (
+  rows-hold,
+  subst (λ (p : Pipeline). T (all (λ r. r) (pipelineRows p blockedPipeline))) plain-is
+      (subst (λ (p : Pipeline). T (all (λ r. r) (pipelineRows plainStepwise p))) blocked-is stepwise-hold),
+)

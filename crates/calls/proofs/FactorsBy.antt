@@ -6,6 +6,7 @@ use mathlib.Core.List.{List}
 use lib.ListN.{length}
 use lib.Ieee.{Float}
 use Rattle.binary64.specs.Kinds.{finite}
+use Rattle.shape.specs.declared.Shape.{Shape}
 use Rattle.calls.specs.declared.Verdict.{Verdict}
 use Rattle.calls.specs.declared.Layout.{Layout}
 use Rattle.calls.specs.declared.Call.the-variants.{Factor}
@@ -40,24 +41,30 @@ columnBy rules n a = λ j. rules j (entry a j j) (pivotOf n a j) (finiteBelow n 
 abbrev pub verdictBy : Rules → ℕ → Triangle → Verdict
 verdictBy rules n a = lowestRefusal (columnBy rules n a) n
 
-abbrev pub loaded : Layout → ℕ → ℕ → List Float → Triangle
-loaded layout n b matrix = load (placeOf layout n b) (height n) n matrix
+abbrev pub loaded : Layout → Shape → List Float → Triangle
+loaded layout shape matrix = load (placeOf layout (shape .order) (shape .block)) (height (shape .order)) (shape .order) matrix
 
-module _ (layout : Layout) (n b : ℕ) (matrix work : List Float) where
+module _ (layout : Layout) (shape : Shape) (matrix work : List Float) where
+  abbrev n : ℕ
+  n = shape .order
+
+  abbrev b : ℕ
+  b = shape .block
+
   abbrev a : Triangle
-  a = loaded layout n b matrix
+  a = loaded layout shape matrix
 
   abbrev pub checks : Verdict
-  checks = factorChecks layout n b matrix (length work)
+  checks = factorChecks layout shape matrix (length work)
 
   -- what it returns and leaves where a check refuses it, and where its columns have this verdict
   abbrev pub untouched : Done
-  untouched = record { result = resultOf checks; matrix = matrix; work = work }
+  untouched = record { result = resultOf (Factor layout) shape checks; matrix = matrix; work = work }
 
   abbrev pub doneWith : Verdict → Done
   doneWith verdict =
       record {
-        result = judgedResult (judgement verdict (columnsExact n a));
+        result = judgedResult (Factor layout) shape (judgement verdict (columnsExact n a));
         matrix = store (placeOf layout n b) (cholesky (height n) a (finished layout n b verdict)) matrix;
         work = clear (neededWork (Factor layout) n b) work;
       }
@@ -66,7 +73,7 @@ module _ (layout : Layout) (n b : ℕ) (matrix work : List Float) where
   abbrev pub factorizeBy : Rules → Done
   factorizeBy rules = cond (accepted checks) (doneWith (verdictBy rules n a)) untouched
 
-  pub factorize-by : factorize layout n b matrix work ≡ factorizeBy columnRules
+  pub factorize-by : factorize layout shape matrix work ≡ factorizeBy columnRules
   unfolding factorize factored columnsVerdict columnVerdict
   factorize-by = refl
 

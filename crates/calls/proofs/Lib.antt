@@ -3,6 +3,7 @@ pub mod Writes
 pub mod Triangles
 pub mod Refusals
 pub mod ColumnRules
+pub mod StateLaws
 pub mod Columns
 pub mod Checks
 pub mod Judging
@@ -15,4 +16,6 @@ pub mod Exactness
 pub mod FactorsBy
 pub mod WeakColumns
 pub mod WeakFirst
+pub mod StateRule
+pub mod Stepwise
 pub mod Examples

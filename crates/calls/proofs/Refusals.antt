@@ -1,10 +1,11 @@
--- Laws of specs/Refusals.antt: when a rule passes, what the lowest refused one says of those before it, and how it follows what is judged. Assumes nothing.
+-- Laws of specs/Refusals.antt: when a rule passes, what the lowest refused one says of those before it, how it follows what is judged, and what holds of every
+-- answer. Assumes nothing.
 use Prim.Native.Nat.{ℕ, zero, suc, _<_}
 use native.Mathlib.Omega.{arith}
 use native.Mathlib.Decide.{decLt}
 use mathlib.Core.Path.{_≡_, refl, ap₂, subst}
 use mathlib.Core.Bool.{Bool, true, false, cond, not}
-use mathlib.Core.List.{List, _∷_}
+use mathlib.Core.List.{List, [], _∷_}
 use lib.Dec.{T, eqb·suc-zero}
 use lib.ListN.{length, getD}
 use lib.Ieee.{Float, nan}
@@ -13,6 +14,12 @@ use Rattle.calls.specs.declared.Verdict.{Verdict}
 use Rattle.calls.specs.Sequences.{all}
 use Rattle.calls.specs.Refusals.{success, accepted, refusal, refuseIf, firstRefusal, lowestRefusal, finiteRule}
 use Rattle.calls.proofs.Sequences.{all-at}
+
+-- ---- one of two
+
+pub cond-both : {A : Type 0} (P : A → Type 0) (c : Bool) (x y : A) → P x → P y → P (cond c x y)
+cond-both P true x y p q = p
+cond-both P false x y p q = q
 
 -- ---- one rule
 
@@ -117,6 +124,25 @@ lowest-refused judge (suc n) t = go (accepted (lowestRefusal judge n)) refl (low
     go false e ih =
         let found : Lowest judge n last = ih (rw e tt) in
         record { at = found .at; inside = omega (arith, found .inside); there = found .there; before = found .before }
+
+-- ---- what holds of success and of every refusal of some rules holds of what they answer
+
+module _ (P : Verdict → Type 0) (none : P success) where
+  pub refuse-holds : (c : Bool) (r : Verdict) → P r → P (refuseIf c r)
+  refuse-holds c r h = cond-both P c r success h none
+
+  pub none-holds : P (firstRefusal [])
+  unfolding firstRefusal
+  none-holds = none
+
+  pub first-holds : (r : Verdict) (rs : List Verdict) → P r → P (firstRefusal rs) → P (firstRefusal (r ∷ rs))
+  unfolding firstRefusal
+  first-holds r rs h t = cond-both P (accepted r) (firstRefusal rs) r t h
+
+  pub lowest-holds : (judge : ℕ → Verdict) → ((k : ℕ) → P (judge k)) → (n : ℕ) → P (lowestRefusal judge n)
+  unfolding lowestRefusal
+  lowest-holds judge each zero = none
+  lowest-holds judge each (suc k) = cond-both P (accepted (lowestRefusal judge k)) (judge k) (lowestRefusal judge k) (each k) (lowest-holds judge each k)
 
 -- ---- 7 and 8 on a memory of finite values
 

@@ -10,6 +10,7 @@ use lib.Dec.{T, eqb}
 use lib.Ieee.{Float}
 use Rattle.binary64.specs.Kinds.{finite, positive}
 use Rattle.binary64.specs.Judged.{judged}
+use Rattle.shape.specs.declared.Shape.{Shape}
 use Rattle.calls.specs.declared.Verdict.{Verdict}
 use Rattle.calls.specs.declared.Layout.{Layout}
 use Rattle.calls.specs.Triangles.{Triangle, entry}
@@ -100,23 +101,26 @@ module _ (n : ℕ) (a : Triangle) where
 
 -- ---- the call, of both layouts
 
-module _ (layout : Layout) (n b : ℕ) (matrix work : List Float) where
+module _ (layout : Layout) (shape : Shape) (matrix work : List Float) where
+  abbrev n : ℕ
+  n = shape .order
+
   abbrev a : Triangle
-  a = loaded layout n b matrix
+  a = loaded layout shape matrix
 
   same-call :
-      (accepted (checks layout n b matrix work) ≡ true → columnsVerdict n a .code ≢ 16) →
-      factorize layout n b matrix work ≡ factorizeBy layout n b matrix work without16
+      (accepted (checks layout shape matrix work) ≡ true → columnsVerdict n a .code ≢ 16) →
+      factorize layout shape matrix work ≡ factorizeBy layout shape matrix work without16
   unfolding columnsVerdict columnVerdict
   same-call other =
-      factorize-by layout n b matrix work
-      ∙ factors-related layout n b matrix work (λ x y. x ≡ y) columnRules without16 (λ e. ap (doneWith layout n b matrix work) (verdict-former n a (other e))) refl
+      factorize-by layout shape matrix work
+      ∙ factors-related layout shape matrix work (λ x y. x ≡ y) columnRules without16 (λ e. ap (doneWith layout shape matrix work) (verdict-former n a (other e))) refl
 
   -- a factor that does not answer 16
-  pub as-before : factorize layout n b matrix work .result .code ≢ 16 → factorize layout n b matrix work ≡ factorizeBy layout n b matrix work without16
+  pub as-before : factorize layout shape matrix work .result .code ≢ 16 → factorize layout shape matrix work ≡ factorizeBy layout shape matrix work without16
   unfolding factorize factored
   as-before other = same-call (λ e h. other (rw e h))
 
   -- and one without a weak column
-  pub none-weak : ((j : ℕ) → j < n → weakColumn n a j ≡ false) → factorize layout n b matrix work ≡ factorizeBy layout n b matrix work without16
+  pub none-weak : ((j : ℕ) → j < n → weakColumn n a j ≡ false) → factorize layout shape matrix work ≡ factorizeBy layout shape matrix work without16
   none-weak none = same-call (λ e. not-16 n a none)

@@ -1,7 +1,6 @@
 -- What the order of rules 16 and 11 changed. A weak column with an entry below that is not finite was refused by 11, with value +0; it is refused by 16, with the
 -- pivot. Nothing else that a factor returned or left changed. Assumes nothing.
-use Prim.Native.Nat.{ℕ, _<_}
-use native.Mathlib.Omega.{arith}
+use Prim.Native.Nat.{ℕ}
 use mathlib.Core.Path.{_≡_, refl, ap, _∙_, subst}
 use mathlib.Core.Logic.{_⊎_, inl, inr}
 use mathlib.Core.Bool.{Bool, true, false, not, _&&_}
@@ -13,16 +12,17 @@ use lib.Ieee.Bits.{is-true}
 use lib.Ieee.Fits.{and-l}
 use Rattle.binary64.specs.Kinds.{positive, zero64}
 use Rattle.binary64.specs.Judged.{judged}
+use Rattle.shape.specs.declared.Shape.{Shape}
 use Rattle.calls.specs.declared.Verdict.{Verdict}
-use Rattle.calls.specs.declared.CallResult.{CallResult}
 use Rattle.calls.specs.declared.Layout.{Layout}
 use Rattle.calls.specs.declared.Layout.the-variants.{Packed, Blocked}
+use Rattle.calls.specs.declared.Call.the-variants.{Factor}
 use Rattle.calls.specs.Triangles.{Triangle, entry}
 use Rattle.calls.specs.Refusals.{accepted, refusal, firstRefusal, rule10, rule11, weak, rule16, columnRules}
-use Rattle.calls.specs.Calls.{Done, resultOf, factorize}
+use Rattle.calls.specs.Calls.{Done, spends, resultOf, answer, factorize}
 use Rattle.calls.proofs.Refusals.{lowest-related}
 use Rattle.calls.proofs.ColumnRules.{weak-positive, rules-place}
-use Rattle.calls.proofs.CheckLaws.{factor-checks-code}
+use Rattle.calls.proofs.CheckLaws.{factor-checks-keep}
 use Rattle.calls.proofs.FactorsBy.{pivotOf, finiteBelow, weakColumn, Rules, columnBy, verdictBy, loaded, checks, untouched, doneWith, factorizeBy, factorize-by, factors-related}
 
 -- ---- one column
@@ -70,17 +70,18 @@ module _ (n : ℕ) (a : Triangle) where
   abbrev pub weakOverflow : ℕ → Bool
   weakOverflow j = weakColumn n a j && not (finiteBelow n a j)
 
-  -- r reports 11 of such a column
-  abbrev pub hidesWeak : CallResult → Bool
-  hidesWeak r = eqb (r .code) 11 && weakOverflow (r .place)
+  -- v reports 11 of such a column
+  abbrev pub hidesWeak : Verdict → Bool
+  hidesWeak v = eqb (v .code) 11 && weakOverflow (v .place)
 
 -- what a factor of a returned and left under the former order, and what it returns and leaves now
-pub record Reordered (n : ℕ) (a : Triangle) (before after : Done) : Type 0 where
+pub record Reordered (layout : Layout) (shape : Shape) (a : Triangle) (before after : Done) : Type 0 where
   pub changed :
-      T (hidesWeak n a (before .result)) →
-      (before .result ≡ record { code = 11; place = before .result .place; value = zero64; exact = false })
-      × (after .result ≡ record { code = 16; place = before .result .place; value = pivotOf n a (before .result .place); exact = false })
-  pub same : hidesWeak n a (before .result) ≡ false → after .result ≡ before .result
+      T (hidesWeak (shape .order) a (answer (before .result) .verdict)) →
+      let j = before .result .place in
+      (before .result ≡ resultOf (Factor layout) shape (refusal 11 j zero64))
+      × (after .result ≡ resultOf (Factor layout) shape (refusal 16 j (pivotOf (shape .order) a j)))
+  pub same : hidesWeak (shape .order) a (answer (before .result) .verdict) ≡ false → after .result ≡ before .result
   pub matrix : after .matrix ≡ before .matrix
   pub work : after .work ≡ before .work
 
@@ -94,7 +95,7 @@ module _ (n : ℕ) (a : Triangle) where
     after : w ≡ refusal 16 at (pivotOf n a at)
 
   record Unchanged (v w : Verdict) : Type 0 where
-    other : hidesWeak n a (resultOf v) ≡ false
+    other : hidesWeak n a v ≡ false
     same : w ≡ v
 
   abbrev Related : Verdict → Verdict → Type 0
@@ -138,11 +139,14 @@ module _ (n : ℕ) (a : Triangle) where
 
 -- ---- the call, of both layouts
 
-module _ (layout : Layout) (n b : ℕ) (matrix work : List Float) where
-  abbrev a : Triangle
-  a = loaded layout n b matrix
+module _ (layout : Layout) (shape : Shape) (matrix work : List Float) where
+  abbrev n : ℕ
+  n = shape .order
 
-  done-reordered : (v w : Verdict) → Related n a v w → Reordered n a (doneWith layout n b matrix work v) (doneWith layout n b matrix work w)
+  abbrev a : Triangle
+  a = loaded layout shape matrix
+
+  done-reordered : (v w : Verdict) → Related n a v w → Reordered layout shape a (doneWith layout shape matrix work v) (doneWith layout shape matrix work w)
   done-reordered v w (inl q) =
       rw (q .before, q .after)
       (record {
@@ -158,18 +162,18 @@ module _ (layout : Layout) (n b : ℕ) (matrix work : List Float) where
       rw (q .same) (record { changed = λ t. absurd (subst T (q .other) t); same = λ h. refl; matrix = refl; work = refl })
 
   -- no check answers 11
-  untouched-reordered : Reordered n a (untouched layout n b matrix work) (untouched layout n b matrix work)
+  untouched-reordered : Reordered layout shape a (untouched layout shape matrix work) (untouched layout shape matrix work)
   untouched-reordered =
-      let code : ℕ = checks layout n b matrix work .code in
-      let below : code < 10 = factor-checks-code layout n b matrix (length work) in
+      let code : ℕ = checks layout shape matrix work .code in
+      let keeps : spends (checks layout shape matrix work) ≡ false = factor-checks-keep layout shape matrix (length work) in
       record {
-        changed = λ t. absurd (let e : code ≡ 11 = eqb→eq code 11 (and-l (eqb code 11) _ t) in omega (arith, below));
+        changed = λ t. absurd (let e : code ≡ 11 = eqb→eq code 11 (and-l (eqb code 11) _ t) in subst T (rw e at keeps) tt);
         same = λ h. refl;
         matrix = refl;
         work = refl;
       }
 
-  pub order-changed : Reordered n a (factorizeBy layout n b matrix work overflowFirst) (factorize layout n b matrix work)
+  pub order-changed : Reordered layout shape a (factorizeBy layout shape matrix work overflowFirst) (factorize layout shape matrix work)
   order-changed =
-      rw (factorize-by layout n b matrix work)
-      (factors-related layout n b matrix work (Reordered n a) overflowFirst columnRules (λ e. done-reordered _ _ (verdict-related n a)) untouched-reordered)
+      rw (factorize-by layout shape matrix work)
+      (factors-related layout shape matrix work (Reordered layout shape a) overflowFirst columnRules (λ e. done-reordered _ _ (verdict-related n a)) untouched-reordered)

@@ -1,12 +1,13 @@
--- The six calls, for all inputs: what each returns and what it leaves in every memory. Codes 1 to 9 leave all memory untouched.
+-- The six calls, for all inputs: what each returns and what it leaves in every memory. Codes 1 to 9 and 15 leave all memory untouched.
 use Prim.Native.Nat.{ℕ, _*_}
 use mathlib.Core.Path.{_≡_}
-use mathlib.Core.Bool.{Bool, false, cond}
+use mathlib.Core.Bool.{Bool, false, cond, _||_}
 use mathlib.Core.List.{List, [], _∷_, _++_}
 use lib.Dec.{eqb}
 use lib.ListN.{length, take, drop, replicate}
 use lib.Ieee.{Float}
 use Rattle.binary64.specs.Kinds.{zero64}
+use Rattle.shape.specs.declared.Shape.{Shape}
 use Rattle.shape.specs.Places.{blockOf}
 use Rattle.calls.specs.declared.Verdict.{Verdict}
 use Rattle.calls.specs.declared.Judgement.{Judgement}
@@ -16,16 +17,38 @@ use Rattle.calls.specs.declared.Layout.{Layout}
 use Rattle.calls.specs.declared.Layout.the-variants.{Packed, Blocked}
 use Rattle.calls.specs.Triangles.{Triangle, placeOf, height, load, store}
 use Rattle.calls.specs.Arithmetic.{cholesky, forward, backward}
+use Rattle.calls.specs.declared.Call.{Call}
 use Rattle.calls.specs.declared.Call.the-variants.{Rearranger, Factor, Solver}
-use Rattle.calls.specs.Refusals.{neededWork, success, accepted, firstRefusal, lowestRefusal, rule1, rule2, rule3, rule4, rule5, rule6, rule7, rule8, rule9, columnVerdict, columnExact, rule12}
+use Rattle.calls.specs.declared.states.State.the-variants.{Spent}
+use Rattle.calls.specs.States.{stateNumber, next, givenBy}
+use Rattle.calls.specs.Refusals.{neededWork, success, accepted, firstRefusal, lowestRefusal, rule1, rule2, rule15, rule3, rule4, rule5, rule6, rule7, rule8, rule9, columnVerdict, columnExact, rule12}
 use Rattle.calls.specs.Judgements.{judgement}
 
--- What a call returns, made here alone: of a factor from what its columns are judged to; where no root was taken from the verdict, and the answer is no.
-abbrev pub judgedResult : Judgement → CallResult
-judgedResult j = record { code = j .verdict .code; place = j .verdict .place; value = j .verdict .value; exact = j .exact }
+-- after 10, 11 and 16 the matrix is spent
+abbrev pub spends : Verdict → Bool
+spends v = eqb (v .code) 10 || eqb (v .code) 11 || eqb (v .code) 16
 
-abbrev pub resultOf : Verdict → CallResult
-resultOf v = judgedResult (record { verdict = v; exact = false })
+-- The state that a call returns: its new one on success, spent after those, and unchanged after any other refusal.
+unfoldable pub stateAfter : Call → ℕ → Verdict → ℕ
+stateAfter call state v = cond (accepted v) (givenBy (next call state) state) (cond (spends v) (stateNumber Spent) state)
+
+-- What a call returns, made here alone: of a factor from what its columns are judged to; where no root was taken from the verdict, and the answer is no.
+abbrev pub judgedResult : Call → Shape → Judgement → CallResult
+judgedResult call shape j =
+    record {
+      code = j .verdict .code;
+      place = j .verdict .place;
+      value = j .verdict .value;
+      exact = j .exact;
+      shape = record { order = shape .order; block = shape .block; state = stateAfter call (shape .state) (j .verdict) };
+    }
+
+abbrev pub resultOf : Call → Shape → Verdict → CallResult
+resultOf call shape v = judgedResult call shape (record { verdict = v; exact = false })
+
+-- what a result says beside its shape
+abbrev pub answer : CallResult → Judgement
+answer r = record { verdict = record { code = r .code; place = r .place; value = r .value }; exact = r .exact }
 
 abbrev pub succeeded : CallResult → Bool
 succeeded r = eqb (r .code) 0
@@ -59,31 +82,42 @@ clear needed work = replicate needed zero64 ++ drop needed work
 
 -- ---- the rearrangers
 
-unfoldable pub rearrangerChecks : ℕ → ℕ → ℕ → ℕ → Verdict
-rearrangerChecks n b matrixLength workLength = firstRefusal (rule1 n ∷ rule2 Rearranger b ∷ rule3 n matrixLength ∷ rule4 Rearranger n b workLength ∷ [])
+unfoldable pub rearrangerChecks : Layout → Layout → Shape → ℕ → ℕ → Verdict
+rearrangerChecks from to shape matrixLength workLength =
+    let call = Rearranger from to in
+    let n = shape .order in
+    let b = shape .block in
+    firstRefusal (rule1 n ∷ rule2 call b ∷ rule15 call (shape .state) ∷ rule3 n matrixLength ∷ rule4 call n b workLength ∷ [])
 
 -- every entry moves from its place in one layout to its place in the other
 unfoldable pub moved : Layout → Layout → ℕ → ℕ → List Float → List Float
 moved from to n b matrix = store (placeOf to n b) (load (placeOf from n b) (height n) n matrix) matrix
 
-unfoldable pub rearrange : Layout → Layout → ℕ → ℕ → List Float → List Float → Done
-rearrange from to n b matrix work =
-    let checks = rearrangerChecks n b (length matrix) (length work) in
+unfoldable pub rearrange : Layout → Layout → Shape → List Float → List Float → Done
+rearrange from to shape matrix work =
+    let call = Rearranger from to in
+    let n = shape .order in
+    let b = shape .block in
+    let checks = rearrangerChecks from to shape (length matrix) (length work) in
     cond (accepted checks)
-    (record { result = resultOf success; matrix = moved from to n b matrix; work = clear (neededWork Rearranger n b) work })
-    (record { result = resultOf checks; matrix = matrix; work = work })
+    (record { result = resultOf call shape success; matrix = moved from to n b matrix; work = clear (neededWork call n b) work })
+    (record { result = resultOf call shape checks; matrix = matrix; work = work })
 
-abbrev pub packedToBlocked : ℕ → ℕ → List Float → List Float → Done
+abbrev pub packedToBlocked : Shape → List Float → List Float → Done
 packedToBlocked = rearrange Packed Blocked
 
-abbrev pub blockedToPacked : ℕ → ℕ → List Float → List Float → Done
+abbrev pub blockedToPacked : Shape → List Float → List Float → Done
 blockedToPacked = rearrange Blocked Packed
 
 -- ---- the factors
 
-unfoldable pub factorChecks : Layout → ℕ → ℕ → List Float → ℕ → Verdict
-factorChecks layout n b matrix workLength =
-    firstRefusal (rule1 n ∷ rule2 (Factor layout) b ∷ rule3 n (length matrix) ∷ rule4 (Factor layout) n b workLength ∷ rule7 matrix ∷ [])
+unfoldable pub factorChecks : Layout → Shape → List Float → ℕ → Verdict
+factorChecks layout shape matrix workLength =
+    let call = Factor layout in
+    let n = shape .order in
+    let b = shape .block in
+    firstRefusal
+    (rule1 n ∷ rule2 call b ∷ rule15 call (shape .state) ∷ rule3 n (length matrix) ∷ rule4 call n b workLength ∷ rule7 matrix ∷ [])
 
 -- each column is judged from the columns before it: its verdict, and whether its root is exact
 abbrev pub judgeColumn : ℕ → Triangle → ℕ → Verdict
@@ -107,27 +141,33 @@ abbrev pub finished : Layout → ℕ → ℕ → Verdict → ℕ
 finished Packed n b verdict = cond (accepted verdict) n (verdict .place)
 finished Blocked n b verdict = cond (accepted verdict) n (blockOf b (verdict .place))
 
-unfoldable pub factored : Layout → ℕ → ℕ → List Float → List Float → Done
-factored layout n b matrix work =
+unfoldable pub factored : Layout → Shape → List Float → List Float → Done
+factored layout shape matrix work =
+    let n = shape .order in
+    let b = shape .block in
     let a = load (placeOf layout n b) (height n) n matrix in
     let verdict = columnsVerdict n a in
     record {
-      result = judgedResult (columnsJudged n a);
+      result = judgedResult (Factor layout) shape (columnsJudged n a);
       matrix = store (placeOf layout n b) (cholesky (height n) a (finished layout n b verdict)) matrix;
       work = clear (neededWork (Factor layout) n b) work;
     }
 
-unfoldable pub factorize : Layout → ℕ → ℕ → List Float → List Float → Done
-factorize layout n b matrix work =
-    let checks = factorChecks layout n b matrix (length work) in
-    cond (accepted checks) (factored layout n b matrix work) (record { result = resultOf checks; matrix = matrix; work = work })
+unfoldable pub factorize : Layout → Shape → List Float → List Float → Done
+factorize layout shape matrix work =
+    let checks = factorChecks layout shape matrix (length work) in
+    cond (accepted checks) (factored layout shape matrix work)
+    (record { result = resultOf (Factor layout) shape checks; matrix = matrix; work = work })
 
 -- ---- the solvers
 
-unfoldable pub solverChecks : Layout → ℕ → ℕ → ℕ → List Float → List Float → ℕ → Verdict
-solverChecks layout n b m matrix rhs workLength =
+unfoldable pub solverChecks : Layout → Shape → ℕ → List Float → List Float → ℕ → Verdict
+solverChecks layout shape m matrix rhs workLength =
+    let call = Solver layout in
+    let n = shape .order in
+    let b = shape .block in
     firstRefusal
-    (rule1 n ∷ rule2 (Solver layout) b ∷ rule3 n (length matrix) ∷ rule4 (Solver layout) n b workLength ∷ rule5 m ∷
+    (rule1 n ∷ rule2 call b ∷ rule15 call (shape .state) ∷ rule3 n (length matrix) ∷ rule4 call n b workLength ∷ rule5 m ∷
     rule6 n m (length rhs) ∷ rule7 matrix ∷ rule8 rhs ∷ rule9 (placeOf layout n b) n matrix ∷ [])
 
 -- Right-hand sides are stored one after another, n values each.
@@ -145,17 +185,20 @@ rhsVerdict n m l rhs = lowestRefusal (λ q. rule12 q (forward n l (rhsPart n q r
 unfoldable pub solutions : ℕ → Triangle → ℕ → List Float → List Float
 solutions n l count rhs = iterate (λ q done. done ++ solution n l (rhsPart n q rhs)) count [] ++ drop (count * n) rhs
 
-unfoldable pub solved : Layout → ℕ → ℕ → ℕ → List Float → List Float → List Float → Solved
-solved layout n b m matrix rhs work =
+unfoldable pub solved : Layout → Shape → ℕ → List Float → List Float → List Float → Solved
+solved layout shape m matrix rhs work =
+    let n = shape .order in
+    let b = shape .block in
     let l = load (placeOf layout n b) (height n) n matrix in
     let verdict = rhsVerdict n m l rhs in
     record {
-      result = resultOf verdict;
+      result = resultOf (Solver layout) shape verdict;
       rhs = solutions n l (cond (accepted verdict) m (verdict .place)) rhs;
       work = clear (neededWork (Solver layout) n b) work;
     }
 
-unfoldable pub solve : Layout → ℕ → ℕ → ℕ → List Float → List Float → List Float → Solved
-solve layout n b m matrix rhs work =
-    let checks = solverChecks layout n b m matrix rhs (length work) in
-    cond (accepted checks) (solved layout n b m matrix rhs work) (record { result = resultOf checks; rhs = rhs; work = work })
+unfoldable pub solve : Layout → Shape → ℕ → List Float → List Float → List Float → Solved
+solve layout shape m matrix rhs work =
+    let checks = solverChecks layout shape m matrix rhs (length work) in
+    cond (accepted checks) (solved layout shape m matrix rhs work)
+    (record { result = resultOf (Solver layout) shape checks; rhs = rhs; work = work })

@@ -2,6 +2,7 @@
 pub mod Sequences
 pub mod Triangles
 pub mod Arithmetic
+pub mod States
 pub mod Refusals
 pub mod Judgements
 pub mod Calls

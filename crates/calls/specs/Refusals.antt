@@ -19,6 +19,7 @@ use Rattle.calls.specs.declared.Call.the-variants.{Rearranger, Factor, S
 use Rattle.calls.specs.declared.Layout.the-variants.{Packed, Blocked}
 use Rattle.calls.specs.Triangles.{Triangle, entry}
 use Rattle.calls.specs.Arithmetic.{pivot, below}
+use Rattle.calls.specs.States.{next, suits}
 
 -- A rule answers a code, a place and a binary64 value, its verdict; success is 0, 0, +0. What a call returns is made from its verdict in Calls.antt.
 abbrev pub success : Verdict
@@ -43,16 +44,16 @@ unfoldable pub lowestRefusal : (ℕ → Verdict) → ℕ → Verdict
 lowestRefusal judge zero = success
 lowestRefusal judge (suc k) = let before = lowestRefusal judge k in cond (accepted before) (judge k) before
 
--- A call is a rearranger, or the factor or solver of a layout; document 01's plain calls are those of the packed layout.
+-- A call is a rearranger from one layout to another, or the factor or solver of a layout; document 01's plain calls are those of the packed layout.
 abbrev pub byBlocks : Call → Bool
-byBlocks Rearranger = true
+byBlocks (Rearranger from to) = true
 byBlocks (Factor Packed) = false
 byBlocks (Factor Blocked) = true
 byBlocks (Solver Packed) = false
 byBlocks (Solver Blocked) = true
 
 abbrev pub neededWork : Call → ℕ → ℕ → ℕ
-neededWork Rearranger n b = blockWork n b
+neededWork (Rearranger from to) n b = blockWork n b
 neededWork (Factor Packed) n b = n
 neededWork (Factor Blocked) n b = blockWork n b
 neededWork (Solver layout) n b = n
@@ -64,6 +65,10 @@ rule1 n = refuseIf (ltb maxOrder n) (refusal 1 0 zero64)
 -- 2. A call that works by blocks has b = 0 or b over 200; other calls do not judge b.
 unfoldable pub rule2 : Call → ℕ → Verdict
 rule2 call b = refuseIf (byBlocks call && (eqb b 0 || ltb maxBlock b)) (refusal 2 0 zero64)
+
+-- 15. The state does not suit the call.
+unfoldable pub rule15 : Call → ℕ → Verdict
+rule15 call state = refuseIf (not (suits (next call state))) (refusal 15 0 zero64)
 
 -- 3. The matrix memory is not exactly n(n + 1)/2 values.
 unfoldable pub rule3 : ℕ → ℕ → Verdict

@@ -1,9 +1,18 @@
-// What the six calls share: the layouts, the kinds of calls, a rule's verdict, a factor's judgement and a call's result.
+// What the six calls share: the layouts, the kinds of calls, a rule's verdict, a factor's judgement and a call's result. The states are in states.rt.
 ghost use mathlib.Core.Path.{_≡_};
 ghost use Rattle.binary64.specs.Kinds.{zero64};
 ghost use Rattle.calls.specs.Refusals as Refusals;
 ghost use Rattle.calls.specs.Calls as Calls;
 ghost use Rattle.calls.specs.Judgements.{Joined};
+
+mod states;
+
+use shape::Shape;
+use states::State;
+use states::given_by;
+pub use states::next;
+use states::state_number;
+pub use states::suits;
 
 // Where the entries of a matrix are kept. The plain factor and solver work on packed memory, the blocked ones on blocked memory.
 pub enum Layout {
@@ -11,8 +20,9 @@ pub enum Layout {
     Blocked,
 }
 
+// A rearranger moves a matrix from one layout to another.
 pub enum Call {
-    Rearranger,
+    Rearranger(Layout, Layout),
     Factor(Layout),
     Solver(Layout),
 }
@@ -30,13 +40,14 @@ pub struct Judgement {
     pub exact: bool,
 }
 
-// What a call returns.
+// What a call returns, with the shape for the next call.
 #[repr(C)]
 pub struct CallResult {
     pub code: usize,
     pub place: usize,
     pub value: f64,
     pub exact: bool,
+    pub shape: Shape,
 }
 
 // The verdict of a rule that states no value; success where the code is 0.
@@ -56,6 +67,17 @@ pub fn accepted(verdict: Verdict) -> bool
     verdict.code == 0
 }
 
+// The code, place and value of a result.
+pub fn verdict_of(result: CallResult) -> Verdict
+    ensures { λ v. ⌜ v ≡ Calls.answer result .verdict ⌝ }
+{
+    Verdict {
+        code: result.code,
+        place: result.place,
+        value: result.value,
+    }
+}
+
 // The columns before one and that one itself, judged together: none after the first that is refused decides.
 pub fn joined(before: Judgement, column: Judgement) -> Judgement
     ensures { λ r. ⌜ Joined before column r ⌝ }
@@ -71,23 +93,54 @@ pub fn joined(before: Judgement, column: Judgement) -> Judgement
     }
 }
 
-// Every call makes its result here: of a factor from what its columns are judged to; where no root was taken from the verdict.
-pub fn judged_result(judgement: Judgement) -> CallResult
-    ensures { λ r. ⌜ r ≡ Calls.judgedResult judgement ⌝ }
+// Whether the matrix is spent: after 10, 11 and 16 it may be neither what it was nor a factor.
+fn spends(verdict: Verdict) -> bool
+    ensures { λ r. ⌜ r ≡ Calls.spends verdict ⌝ }
 {
+    (verdict.code == 10) | (verdict.code == 11) | (verdict.code == 16)
+}
+
+// The number of the state that a call returns.
+fn state_after(call: Call, state: usize, verdict: Verdict) -> usize
+    ensures { λ r. ⌜ r ≡ Calls.stateAfter call state verdict ⌝ }
+{
+    if accepted(verdict) {
+        return given_by(next(call, state), state);
+    }
+    if spends(verdict) {
+        return state_number(State::Spent);
+    }
+    state
+}
+
+// Every call makes its result here: of a factor from what its columns are judged to; where no root was taken from the verdict.
+pub fn judged_result(call: Call, shape: Shape, judgement: Judgement) -> CallResult
+    ensures { λ r. ⌜ r ≡ Calls.judgedResult call shape judgement ⌝ }
+{
+    let verdict = judgement.verdict;
+    let state = state_after(call, shape.state, verdict);
     CallResult {
-        code: judgement.verdict.code,
-        place: judgement.verdict.place,
-        value: judgement.verdict.value,
+        code: verdict.code,
+        place: verdict.place,
+        value: verdict.value,
         exact: judgement.exact,
+        shape: Shape {
+            order: shape.order,
+            block: shape.block,
+            state,
+        },
     }
 }
 
-pub fn result(verdict: Verdict) -> CallResult
-    ensures { λ r. ⌜ r ≡ Calls.resultOf verdict ⌝ }
+pub fn result(call: Call, shape: Shape, verdict: Verdict) -> CallResult
+    ensures { λ r. ⌜ r ≡ Calls.resultOf call shape verdict ⌝ }
 {
-    judged_result(Judgement {
-        verdict,
-        exact: false,
-    })
+    judged_result(
+        call,
+        shape,
+        Judgement {
+            verdict,
+            exact: false,
+        },
+    )
 }

@@ -1,4 +1,4 @@
-// The checks before any work: rules 1 to 9 of crate calls, specs/Refusals.antt, in their order. Sizes are multiplied only after the rules that bound them.
+// The checks before any work: rules 1 to 9 and 15 of crate calls, specs/Refusals.antt, in their order. Sizes are multiplied only after the rules that bound them.
 ghost use mathlib.Core.Path.{_≡_};
 ghost use mathlib.Core.List.{_∷_, []};
 ghost use Prim.Native.Nat.{_≤_, _<_};
@@ -8,7 +8,7 @@ ghost use Rattle.shape.specs.Bounds.{maxOrder};
 ghost use Rattle.shape.specs.Places.{triangle};
 ghost use Rattle.shape.specs.Layouts.{Entry};
 ghost use Rattle.calls.specs.Triangles.{placeOf};
-ghost use Rattle.calls.specs.Refusals.{byBlocks, neededWork, firstRefusal, rule1, rule2, rule3, rule4, rule5, rule6, finiteRule, rule9};
+ghost use Rattle.calls.specs.Refusals.{byBlocks, neededWork, firstRefusal, rule1, rule2, rule15, rule3, rule4, rule5, rule6, finiteRule, rule9};
 ghost use Rattle.checks.specs.Values.{finiteCode};
 ghost use Rattle.calls.specs.Calls.{rearrangerChecks, factorChecks, solverChecks};
 use crate::all_finite;
@@ -29,7 +29,7 @@ fn by_blocks(call: Call) -> bool
     ensures { λ r. ⌜ r ≡ byBlocks call ⌝ }
 {
     match call {
-        Call::Rearranger => true,
+        Call::Rearranger(_, _) => true,
         Call::Factor(layout) => match layout {
             Layout::Packed => false,
             Layout::Blocked => true,
@@ -46,7 +46,7 @@ fn needed_work(call: Call, shape: Shape) -> usize
     ensures { λ r. ⌜ r ≡ neededWork call (shape .order) (shape .block) ⌝ }
 {
     match call {
-        Call::Rearranger => shape.block_work(),
+        Call::Rearranger(_, _) => shape.block_work(),
         Call::Factor(layout) => match layout {
             Layout::Packed => shape.order,
             Layout::Blocked => shape.block_work(),
@@ -55,15 +55,18 @@ fn needed_work(call: Call, shape: Shape) -> usize
     }
 }
 
-// Rules 1 to 4, on the lengths of the matrix and work memory.
+// Rules 1, 2, 15, 3 and 4, on the shape and the lengths of the matrix and work memory.
 fn check_sizes(call: Call, shape: Shape, matrix: usize, work: usize) -> Verdict
-    ensures { λ r. ⌜ r ≡ firstRefusal (rule1 (shape .order) ∷ rule2 call (shape .block) ∷ rule3 (shape .order) matrix ∷ rule4 call (shape .order) (shape .block) work ∷ []) ⌝ }
+    ensures { λ r. ⌜ r ≡ firstRefusal (rule1 (shape .order) ∷ rule2 call (shape .block) ∷ rule15 call (shape .state) ∷ rule3 (shape .order) matrix ∷ rule4 call (shape .order) (shape .block) work ∷ []) ⌝ }
 {
     if !shape.order_in_bounds() {
         return refusal(1, 0);
     }
     if by_blocks(call) & !shape.block_in_bounds() {
         return refusal(2, 0);
+    }
+    if !calls::suits(calls::next(call, shape.state)) {
+        return refusal(15, 0);
     }
     if matrix != shape.triangle() {
         return refusal(3, 0);
@@ -143,14 +146,20 @@ fn check_diagonal(layout: Layout, shape: Shape, matrix: &[f64]) -> Verdict
     refusal(0, 0)
 }
 
-pub fn check_rearranger(shape: Shape, matrix: usize, work: usize) -> Verdict
-    ensures { λ r. ⌜ r ≡ rearrangerChecks (shape .order) (shape .block) matrix work ⌝ }
+pub fn check_rearranger(
+    from: Layout,
+    to: Layout,
+    shape: Shape,
+    matrix: usize,
+    work: usize,
+) -> Verdict
+    ensures { λ r. ⌜ r ≡ rearrangerChecks from to shape matrix work ⌝ }
 {
-    check_sizes(Call::Rearranger, shape, matrix, work)
+    check_sizes(Call::Rearranger(from, to), shape, matrix, work)
 }
 
 pub fn check_factor(layout: Layout, shape: Shape, matrix: &[f64], work: usize) -> Verdict
-    ensures { λ r. ⌜ r ≡ factorChecks layout (shape .order) (shape .block) (now (matrix .entry)) work ⌝ }
+    ensures { λ r. ⌜ r ≡ factorChecks layout shape (now (matrix .entry)) work ⌝ }
 {
     let sizes = check_sizes(Call::Factor(layout), shape, matrix.len(), work);
     if !accepted(sizes) {
@@ -167,7 +176,7 @@ pub fn check_solver(
     rhs: &[f64],
     work: usize,
 ) -> Verdict
-    ensures { λ r. ⌜ r ≡ solverChecks layout (shape .order) (shape .block) m (now (matrix .entry)) (now (rhs .entry)) work ⌝ }
+    ensures { λ r. ⌜ r ≡ solverChecks layout shape m (now (matrix .entry)) (now (rhs .entry)) work ⌝ }
 {
     let sizes = check_sizes(Call::Solver(layout), shape, matrix.len(), work);
     if !accepted(sizes) {

@@ -5,60 +5,86 @@ use mathlib.Core.List.{List}
 use borrow.Author.Tests.{eq-eqb, ne-eqb}
 use lib.Dec.{T}
 use lib.Ieee.{Float, binary64, fits}
+use Rattle.shape.specs.declared.Shape.{Shape}
 use Rattle.calls.specs.declared.CallResult.{CallResult}
 use Rattle.calls.specs.declared.Layout.the-variants.{Packed, Blocked}
 use Rattle.calls.specs.Sequences.{all}
 use Rattle.calls.specs.Calls.{DoneAs, SolvedAs, packedToBlocked, blockedToPacked, factorize, solve}
-use Rattle.calls.specs.Pipelines.{plainPipeline, blockedPipeline, Agreement}
+use Rattle.calls.specs.Pipelines.{packedRaw, endedBy, plainPipeline, blockedPipeline, Agreement}
 use Rattle.calls.proofs.Agreement.{pipelines-agree}
 use Rattle.engine.specs.declared.pipelines.BothResults.{BothResults}
 use Rattle.engine.specs.Promises.{ended, endedAt, Memory, BothRan}
 
-module _ (n b m : ℕ) (matrix rhs work : List Float) (f : CallResult) (matrix′ work′ : List Float) where
-  -- ---- plain
+-- the shape that a pipeline starts from
+pub starts : (n b : ℕ) (shape : Shape) → shape .order ≡ n → shape .block ≡ b → shape .state ≡ 0 → shape ≡ packedRaw n b
+starts n b shape p q r = rw (← p, ← q) (ap (λ k. record { order = shape .order; block = shape .block; state = k }) r)
 
-  module _ (factored : DoneAs (factorize Packed n b matrix work) f matrix′ work′) where
-    pub plain-refused : (f .code ≡ 0 → ⊥) → ended (record { factor = f; solver = f }) matrix′ rhs work′ ≡ plainPipeline n b m matrix rhs work
+-- ---- plain
+
+module _ (n b m : ℕ) (matrix rhs work : List Float) (f : CallResult) (matrix′ work′ : List Float) (factored : DoneAs (factorize Packed (packedRaw n b) matrix work) f matrix′ work′)
+  where
+    pub plain-refused : (f .code ≡ 0 → ⊥) → endedBy f matrix′ rhs work′ ≡ plainPipeline n b m matrix rhs work
     unfolding plainPipeline
     plain-refused ne = rw (← factored .result, ← factored .matrix, ← factored .work, ne-eqb (f .code) 0 ne) refl
 
     pub plain-accepted :
-        f .code ≡ 0 → (s : CallResult) (rhs′ work″ : List Float) → SolvedAs (solve Packed n b m matrix′ rhs work′) s rhs′ work″ →
-        ended (record { factor = f; solver = s }) matrix′ rhs′ work″ ≡ plainPipeline n b m matrix rhs work
+        f .code ≡ 0 → (s : CallResult) (rhs′ work″ : List Float) → SolvedAs (solve Packed (f .shape) m matrix′ rhs work′) s rhs′ work″ →
+        ended (record { factor = f; solver = s; shape = s .shape }) matrix′ rhs′ work″ ≡ plainPipeline n b m matrix rhs work
     unfolding plainPipeline
     plain-accepted e s rhs′ work″ solved =
         rw (← factored .result, ← factored .matrix, ← factored .work, eq-eqb (f .code) 0 e, ← solved .result, ← solved .rhs, ← solved .work) refl
 
 -- ---- blocked
 
-module _ (n b m : ℕ) (matrix rhs work : List Float) (p : CallResult) (matrix₁ work₁ : List Float) (f : CallResult) (matrix₂ work₂ : List Float)
-    (there : DoneAs (packedToBlocked n b matrix work) p matrix₁ work₁) (factored : DoneAs (factorize Blocked n b matrix₁ work₁) f matrix₂ work₂)
+module _
+    (n b m : ℕ) (matrix rhs work : List Float) (p : CallResult) (matrix₁ work₁ : List Float)
+    (there : DoneAs (packedToBlocked (packedRaw n b) matrix work) p matrix₁ work₁)
   where
-    pub blocked-refused : (f .code ≡ 0 → ⊥) → ended (record { factor = f; solver = f }) matrix₂ rhs work₂ ≡ blockedPipeline n b m matrix rhs work
+    pub blocked-not-moved : (p .code ≡ 0 → ⊥) → endedBy p matrix₁ rhs work₁ ≡ blockedPipeline n b m matrix rhs work
     unfolding blockedPipeline
-    blocked-refused ne =
-        rw (← there .matrix, ← there .work, ← factored .result, ← factored .matrix, ← factored .work, ne-eqb (f .code) 0 ne) refl
+    blocked-not-moved ne = rw (← there .result, ← there .matrix, ← there .work, ne-eqb (p .code) 0 ne) refl
 
-    pub blocked-accepted :
-        f .code ≡ 0 → (s : CallResult) (rhs′ work₃ : List Float) → SolvedAs (solve Blocked n b m matrix₂ rhs work₂) s rhs′ work₃ →
-        (q : CallResult) (matrix₄ work₄ : List Float) → DoneAs (blockedToPacked n b matrix₂ work₃) q matrix₄ work₄ →
-        ended (record { factor = f; solver = s }) matrix₄ rhs′ work₄ ≡ blockedPipeline n b m matrix rhs work
-    unfolding blockedPipeline
-    blocked-accepted e s rhs′ work₃ solved q matrix₄ work₄ back =
-        rw (
-          ← there .matrix,
-          ← there .work,
-          ← factored .result,
-          ← factored .matrix,
-          ← factored .work,
-          eq-eqb (f .code) 0 e,
-          ← solved .result,
-          ← solved .rhs,
-          ← solved .work,
-          ← back .matrix,
-          ← back .work,
-        )
-        refl
+    module _
+        (moved : p .code ≡ 0) (f : CallResult) (matrix₂ work₂ : List Float) (factored : DoneAs (factorize Blocked (p .shape) matrix₁ work₁) f matrix₂ work₂)
+      where
+        pub blocked-refused : (f .code ≡ 0 → ⊥) → endedBy f matrix₂ rhs work₂ ≡ blockedPipeline n b m matrix rhs work
+        unfolding blockedPipeline
+        blocked-refused ne =
+            rw (
+              ← there .result,
+              ← there .matrix,
+              ← there .work,
+              eq-eqb (p .code) 0 moved,
+              ← factored .result,
+              ← factored .matrix,
+              ← factored .work,
+              ne-eqb (f .code) 0 ne,
+            )
+            refl
+
+        pub blocked-accepted :
+            f .code ≡ 0 → (s : CallResult) (rhs′ work₃ : List Float) → SolvedAs (solve Blocked (f .shape) m matrix₂ rhs work₂) s rhs′ work₃ →
+            (q : CallResult) (matrix₄ work₄ : List Float) → DoneAs (blockedToPacked (s .shape) matrix₂ work₃) q matrix₄ work₄ →
+            ended (record { factor = f; solver = s; shape = q .shape }) matrix₄ rhs′ work₄ ≡ blockedPipeline n b m matrix rhs work
+        unfolding blockedPipeline
+        blocked-accepted e s rhs′ work₃ solved q matrix₄ work₄ back =
+            rw (
+              ← there .result,
+              ← there .matrix,
+              ← there .work,
+              eq-eqb (p .code) 0 moved,
+              ← factored .result,
+              ← factored .matrix,
+              ← factored .work,
+              eq-eqb (f .code) 0 e,
+              ← solved .result,
+              ← solved .rhs,
+              ← solved .work,
+              ← back .result,
+              ← back .matrix,
+              ← back .work,
+            )
+            refl
 
 -- ---- both
 

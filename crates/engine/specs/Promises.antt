@@ -9,7 +9,7 @@ use Rattle.engine.specs.declared.pipelines.BothResults.{BothResults}
 
 -- what a pipeline returned and left
 abbrev pub ended : PipelineResult → List Float → List Float → List Float → Ended
-ended r matrix rhs work = record { factorResult = r .factor; solverResult = r .solver; matrix = matrix; rhs = rhs; work = work }
+ended r matrix rhs work = record { factorResult = r .factor; solverResult = r .solver; shape = r .shape; matrix = matrix; rhs = rhs; work = work }
 
 -- a pipeline's memories
 pub record Memory : Type 0 where

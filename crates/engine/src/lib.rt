@@ -19,7 +19,7 @@ pub extern "C" fn metsovary_packed_to_blocked(
     matrix: &mut [f64],
     work: &mut [f64],
 ) -> CallResult
-    ensures { λ r. ⌜ DoneAs (packedToBlocked (shape .order) (shape .block) (now (matrix .entry)) (now (work .entry))) r (now (matrix .exit)) (now (work .exit)) ⌝ }
+    ensures { λ r. ⌜ DoneAs (packedToBlocked shape (now (matrix .entry)) (now (work .entry))) r (now (matrix .exit)) (now (work .exit)) ⌝ }
 {
     rearrange::packed_to_blocked(shape, matrix, work)
 }
@@ -30,7 +30,7 @@ pub extern "C" fn metsovary_blocked_to_packed(
     matrix: &mut [f64],
     work: &mut [f64],
 ) -> CallResult
-    ensures { λ r. ⌜ DoneAs (blockedToPacked (shape .order) (shape .block) (now (matrix .entry)) (now (work .entry))) r (now (matrix .exit)) (now (work .exit)) ⌝ }
+    ensures { λ r. ⌜ DoneAs (blockedToPacked shape (now (matrix .entry)) (now (work .entry))) r (now (matrix .exit)) (now (work .exit)) ⌝ }
 {
     rearrange::blocked_to_packed(shape, matrix, work)
 }
@@ -41,7 +41,7 @@ pub extern "C" fn metsovary_factor_plain(
     matrix: &mut [f64],
     work: &mut [f64],
 ) -> CallResult
-    ensures { λ r. ⌜ DoneAs (factorize Packed (shape .order) (shape .block) (now (matrix .entry)) (now (work .entry))) r (now (matrix .exit)) (now (work .exit)) ⌝ }
+    ensures { λ r. ⌜ DoneAs (factorize Packed shape (now (matrix .entry)) (now (work .entry))) r (now (matrix .exit)) (now (work .exit)) ⌝ }
 {
     plain_factor::factor(shape, matrix, work)
 }
@@ -52,7 +52,7 @@ pub extern "C" fn metsovary_factor_blocked(
     matrix: &mut [f64],
     work: &mut [f64],
 ) -> CallResult
-    ensures { λ r. ⌜ DoneAs (factorize Blocked (shape .order) (shape .block) (now (matrix .entry)) (now (work .entry))) r (now (matrix .exit)) (now (work .exit)) ⌝ }
+    ensures { λ r. ⌜ DoneAs (factorize Blocked shape (now (matrix .entry)) (now (work .entry))) r (now (matrix .exit)) (now (work .exit)) ⌝ }
 {
     blocked_factor::factor(shape, matrix, work)
 }
@@ -65,7 +65,7 @@ pub extern "C" fn metsovary_solve_plain(
     rhs: &mut [f64],
     work: &mut [f64],
 ) -> CallResult
-    ensures { λ r. ⌜ SolvedAs (Calls.solve Packed (shape .order) (shape .block) m (now (matrix .entry)) (now (rhs .entry)) (now (work .entry))) r (now (rhs .exit)) (now (work .exit)) ⌝ }
+    ensures { λ r. ⌜ SolvedAs (Calls.solve Packed shape m (now (matrix .entry)) (now (rhs .entry)) (now (work .entry))) r (now (rhs .exit)) (now (work .exit)) ⌝ }
 {
     solve::solve_plain(shape, m, matrix, rhs, work)
 }
@@ -78,7 +78,7 @@ pub extern "C" fn metsovary_solve_blocked(
     rhs: &mut [f64],
     work: &mut [f64],
 ) -> CallResult
-    ensures { λ r. ⌜ SolvedAs (Calls.solve Blocked (shape .order) (shape .block) m (now (matrix .entry)) (now (rhs .entry)) (now (work .entry))) r (now (rhs .exit)) (now (work .exit)) ⌝ }
+    ensures { λ r. ⌜ SolvedAs (Calls.solve Blocked shape m (now (matrix .entry)) (now (rhs .entry)) (now (work .entry))) r (now (rhs .exit)) (now (work .exit)) ⌝ }
 {
     solve::solve_blocked(shape, m, matrix, rhs, work)
 }

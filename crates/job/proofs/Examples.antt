@@ -15,12 +15,13 @@ use Rattle.shape.specs.Places.{triangle, packedPlace, blockedPlace, blockWork}
 use Rattle.calls.specs.Sequences.{iterate, grow, tabulate, all}
 use Rattle.calls.specs.Triangles.{entry, height, placeOf, load, storeColumn, store}
 use Rattle.calls.specs.Arithmetic.{minusProducts, pivot, quotient, below, factorColumn, cholesky, forward, backwardRows, backward}
-use Rattle.calls.specs.Refusals.{firstRefusal, lowestRefusal, rule1, rule2, rule3, rule4, rule5, rule6, finiteRule, rule9, rule11, weak, rule16, columnRules, columnVerdict, rule12}
-use Rattle.calls.specs.Calls.{rearrange, rearrangerChecks, moved, factorize, factorChecks, factored, columnsVerdict, solve, solverChecks, solved, rhsVerdict, rhsPart, solution, solutions, clear}
+use Rattle.calls.specs.States.{lookUp}
+use Rattle.calls.specs.Refusals.{firstRefusal, lowestRefusal, rule1, rule2, rule15, rule3, rule4, rule5, rule6, finiteRule, rule9, rule11, weak, rule16, columnRules, columnVerdict, rule12}
+use Rattle.calls.specs.Calls.{stateAfter, rearrange, rearrangerChecks, moved, factorize, factorChecks, factored, columnsVerdict, solve, solverChecks, solved, rhsVerdict, rhsPart, solution, solutions, clear}
 use Rattle.calls.specs.Pipelines.{blockedPipeline}
 use Rattle.job.specs.Reading.{littleEndian, field, bounded, value, values}
 use Rattle.job.specs.Format.{readSizes, mapBytes, mapBit, padded, readMap, readValues, readJob}
-use Rattle.job.specs.Listing.{digits, decimal, hexDigit, hexadecimal, jobLine, valueLine, valueLines, endLine, jobEnded, jobResult, solutionLines, resultLines, listingOf, listing}
+use Rattle.job.specs.Listing.{digits, decimal, hexDigit, hexadecimal, jobLine, valueLine, valueLines, endLine, jobEnded, jobVerdict, solutionLines, resultLines, listingOf, listing}
 
 codes : String → List ℕ
 codes String.[] = []
@@ -112,5 +113,5 @@ table =
     []
 
 examples : T (allListed table)
-unfolding allListed table row lists job littleEndian field bounded value values readSizes mapBytes mapBit padded readMap readValues readJob digits decimal hexDigit hexadecimal jobLine valueLine valueLines endLine jobEnded jobResult solutionLines resultLines blockedPipeline rearrange rearrangerChecks moved factorize factorChecks factored columnsVerdict solve solverChecks solved rhsVerdict rhsPart solution solutions clear firstRefusal lowestRefusal rule1 rule2 rule3 rule4 rule5 rule6 finiteRule rule9 rule11 weak rule16 columnRules columnVerdict rule12 minusProducts pivot quotient below factorColumn cholesky forward backwardRows backward iterate grow tabulate all entry height placeOf load storeColumn store kind finite positive root judged triangle packedPlace blockedPlace blockWork toBits ofBits mul sub div lt
+unfolding allListed table row lists job littleEndian field bounded value values readSizes mapBytes mapBit padded readMap readValues readJob digits decimal hexDigit hexadecimal jobLine valueLine valueLines endLine jobEnded jobVerdict solutionLines resultLines blockedPipeline rearrange rearrangerChecks moved factorize factorChecks factored columnsVerdict solve solverChecks solved rhsVerdict rhsPart solution solutions clear firstRefusal lowestRefusal stateAfter lookUp rule1 rule2 rule15 rule3 rule4 rule5 rule6 finiteRule rule9 rule11 weak rule16 columnRules columnVerdict rule12 minusProducts pivot quotient below factorColumn cholesky forward backwardRows backward iterate grow tabulate all entry height placeOf load storeColumn store kind finite positive root judged triangle packedPlace blockedPlace blockWork toBits ofBits mul sub div lt
 examples = tt

@@ -12,23 +12,24 @@ use lib.Seq.{take-at}
 use lib.Ieee.{Float, binary64, ofBits}
 use borrow.Author.Tests.{lt-ltb, le-leb, lt-leb, leb-true, eq-eqb, ne-eqb}
 use Rattle.shape.specs.Places.{blockWork}
+use Rattle.shape.specs.declared.Shape.{Shape}
 use Rattle.calls.specs.declared.Verdict.{Verdict}
-use Rattle.calls.specs.declared.CallResult.{CallResult}
 use Rattle.calls.specs.declared.Layout.{Layout}
 use Rattle.calls.specs.declared.Layout.the-variants.{Blocked}
 use Rattle.calls.specs.Sequences.{all}
 use Rattle.calls.specs.Triangles.{placeOf, height, load}
 use Rattle.binary64.specs.Kinds.{finite, zero64}
 use Rattle.calls.specs.Refusals.{success, accepted, firstRefusal, rule7, rule8, rule12}
-use Rattle.calls.specs.Calls.{resultOf, succeeded, Solved, packedToBlocked, blockedToPacked, factorize, solverChecks, solve, solved, rhsVerdict, rhsPart, solution}
+use Rattle.calls.specs.Calls.{answer, succeeded, Solved, packedToBlocked, blockedToPacked, factorize, solverChecks, solve, solved, rhsVerdict, rhsPart, solution}
 use Rattle.calls.specs.Arithmetic.{forward}
-use Rattle.calls.specs.Pipelines.{Ended, blockedPipeline}
+use Rattle.calls.specs.Pipelines.{Ended, packedRaw, endedBy, blockedPipeline}
+use Rattle.calls.proofs.Refusals.{cond-both}
 use Rattle.calls.proofs.Judging.{lowest-all}
 use Rattle.calls.proofs.CheckLaws.{refuse-accepted, solver-success as checks-success}
 use Rattle.job.specs.declared.Sizes.{Sizes}
 use Rattle.job.specs.Reading.{Parsed, fault, found, andThen, require, field, bounded}
 use Rattle.job.specs.Format.{Job, InBounds, readSizes, readMap, readValues, readJob}
-use Rattle.job.specs.Listing.{digits, decimal, jobLine, endLine, solutionLines, resultLines, jobEnded, jobResult, listingOf, listed, listing, listingIn, JobSolved}
+use Rattle.job.specs.Listing.{digits, decimal, jobLine, endLine, solutionLines, resultLines, jobEnded, jobVerdict, listingOf, listed, listing, listingIn, JobSolved}
 use Rattle.job.proofs.Texts.{length-decimal, length-jobLine, length-endLine, length-solutionLines, refused-lines, accepted-lines}
 
 -- ---- the bounds of what was read
@@ -74,63 +75,61 @@ sizes-bounds file sizes at e = go1 (bounded file 0 2 0 64) refl e
 
 -- ---- the result
 
-abbrev Succeeds : CallResult → Type 0
-Succeeds r = T (succeeded r) → r ≡ resultOf success
+abbrev Succeeds : Verdict → Type 0
+Succeeds v = T (accepted v) → v ≡ success
 
 rule12-success : (q : ℕ) (y x : List Float) → T (accepted (rule12 q y x)) → rule12 q y x ≡ success
 unfolding rule12
 rule12-success q y x h = refuse-accepted (not (all finite y && all finite x)) 11 q h
 
-solver-success : (layout : Layout) (n b m : ℕ) (matrix rhs work : List Float) → Succeeds (solve layout n b m matrix rhs work .result)
+solver-success : (layout : Layout) (shape : Shape) (m : ℕ) (matrix rhs work : List Float) → Succeeds (answer (solve layout shape m matrix rhs work .result) .verdict)
 unfolding solve solved rhsVerdict
-solver-success layout n b m matrix rhs work =
-    let l = load (placeOf layout n b) (height n) n matrix in
-    let checks = solverChecks layout n b m matrix rhs (length work) in
-    go (accepted checks) (solved layout n b m matrix rhs work) (record { result = resultOf checks; rhs = rhs; work = work })
+solver-success layout shape m matrix rhs work =
+    let n = shape .order in
+    let l = load (placeOf layout n (shape .block)) (height n) n matrix in
+    cond-both (λ (s : Solved). Succeeds (answer (s .result) .verdict)) (accepted (solverChecks layout shape m matrix rhs (length work))) _ _
     (λ k.
-    ap resultOf
-    (lowest-all (λ q. rule12 q (forward n l (rhsPart n q rhs)) (solution n l (rhsPart n q rhs)))
-    (λ q. rule12-success q (forward n l (rhsPart n q rhs)) (solution n l (rhsPart n q rhs))) m k))
-    (λ k. ap resultOf (checks-success layout n b m matrix rhs (length work) k))
-  where
-    go : (b : Bool) (x y : Solved) → Succeeds (x .result) → Succeeds (y .result) → Succeeds (cond b x y .result)
-    go true x y f g = f
-    go false x y f g = g
+    lowest-all (λ q. rule12 q (forward n l (rhsPart n q rhs)) (solution n l (rhsPart n q rhs)))
+    (λ q. rule12-success q (forward n l (rhsPart n q rhs)) (solution n l (rhsPart n q rhs))) m k)
+    (λ k. checks-success layout shape m matrix rhs (length work) k)
 
 -- what the pipeline's solver returns, where it succeeds, is success
-pipeline-success : (n b m : ℕ) (matrix rhs work : List Float) → Succeeds (blockedPipeline n b m matrix rhs work .solverResult)
+pipeline-success : (n b m : ℕ) (matrix rhs work : List Float) → Succeeds (answer (blockedPipeline n b m matrix rhs work .solverResult) .verdict)
 unfolding blockedPipeline
 pipeline-success n b m matrix rhs work =
-    let p = packedToBlocked n b matrix work in
-    let f = factorize Blocked n b (p .matrix) (p .work) in
-    let s = solve Blocked n b m (f .matrix) rhs (f .work) in
-    let q = blockedToPacked n b (f .matrix) (s .work) in
-    go (succeeded (f .result)) refl
-    (record { factorResult = f .result; solverResult = s .result; matrix = q .matrix; rhs = s .rhs; work = q .work })
-    (record { factorResult = f .result; solverResult = f .result; matrix = f .matrix; rhs = rhs; work = f .work })
-    (solver-success Blocked n b m (f .matrix) rhs (f .work)) (λ e k. absurd (subst T e k))
+    let p = packedToBlocked (packedRaw n b) matrix work in
+    let f = factorize Blocked (p .result .shape) (p .matrix) (p .work) in
+    let s = solve Blocked (f .result .shape) m (f .matrix) rhs (f .work) in
+    let q = blockedToPacked (s .result .shape) (f .matrix) (s .work) in
+    let solver : Ended =
+    record { factorResult = f .result; solverResult = s .result; shape = q .result .shape; matrix = q .matrix; rhs = s .rhs; work = q .work }
+    in
+    let factor : Ended = endedBy (f .result) (f .matrix) rhs (f .work) in
+    go (succeeded (p .result)) refl (cond (succeeded (f .result)) solver factor) (endedBy (p .result) (p .matrix) rhs (p .work))
+    (go (succeeded (f .result)) refl solver factor (solver-success Blocked (f .result .shape) m (f .matrix) rhs (f .work)) (λ e k. absurd (subst T e k)))
+    (λ e k. absurd (subst T e k))
   where
-    go : (c : Bool) {d : Bool} → d ≡ c → (x y : Ended) → Succeeds (x .solverResult) → (d ≡ false → Succeeds (y .solverResult)) →
-        Succeeds (cond c x y .solverResult)
+    go : (c : Bool) {d : Bool} → d ≡ c → (x y : Ended) → Succeeds (answer (x .solverResult) .verdict) → (d ≡ false → Succeeds (answer (y .solverResult) .verdict)) →
+        Succeeds (answer (cond c x y .solverResult) .verdict)
     go true e x y g k = g
     go false e x y g k = k e
 
--- a refusal of 7 or 8 is the job's result, and memory is not looked at
+-- a refusal of 7 or 8 is the job's verdict, and memory is not looked at
 module _ (job : Job) (v : Verdict) (m x : List Float) (no : v .code ≡ 0 → ⊥) where
   not-accepted : {A : Type 0} → T (accepted v) → A
   not-accepted h = absurd (no (eqb→eq (v .code) 0 h))
 
-  pub refused-by-7 : v ≡ rule7 (job .matrix) → JobSolved job (resultOf v) m x
-  unfolding jobResult firstRefusal
+  pub refused-by-7 : v ≡ rule7 (job .matrix) → JobSolved job v m x
+  unfolding jobVerdict firstRefusal
   refused-by-7 e =
       let refused : accepted v ≡ false = ne-eqb (v .code) 0 no in
-      record { result = rw (← e, refused, refused) refl; matrix = λ h. not-accepted h; rhs = λ h. not-accepted h }
+      record { verdict = rw (← e, refused, refused) refl; matrix = λ h. not-accepted h; rhs = λ h. not-accepted h }
 
-  pub refused-by-8 : (u : Verdict) → u ≡ rule7 (job .matrix) → u .code ≡ 0 → v ≡ rule8 (job .rhs) → JobSolved job (resultOf v) m x
-  unfolding jobResult firstRefusal
+  pub refused-by-8 : (u : Verdict) → u ≡ rule7 (job .matrix) → u .code ≡ 0 → v ≡ rule8 (job .rhs) → JobSolved job v m x
+  unfolding jobVerdict firstRefusal
   refused-by-8 u f z e =
       let refused : accepted v ≡ false = ne-eqb (v .code) 0 no in
-      record { result = rw (← f, eq-eqb (u .code) 0 z, ← e, refused, refused) refl; matrix = λ h. not-accepted h; rhs = λ h. not-accepted h }
+      record { verdict = rw (← f, eq-eqb (u .code) 0 z, ← e, refused, refused) refl; matrix = λ h. not-accepted h; rhs = λ h. not-accepted h }
 
 -- ---- lengths
 
@@ -169,20 +168,20 @@ module _ (sizes : Sizes) (inside : InBounds sizes) where
 
   -- a listing of at most 2,080 matrix values and 1,024 right-side values
   pub result-short :
-      (result : CallResult) (matrix rhs : List Float) →
-      Succeeds result → length matrix ≤ 2080 → length rhs ≤ 1024 →
-      length (resultLines sizes result matrix rhs) ≤ 58998
-  result-short result matrix rhs is h k =
-      elim (decEq (result .code) 0) [
+      (verdict : Verdict) (matrix rhs : List Float) →
+      Succeeds verdict → length matrix ≤ 2080 → length rhs ≤ 1024 →
+      length (resultLines sizes verdict matrix rhs) ≤ 58998
+  result-short verdict matrix rhs is h k =
+      elim (decEq (verdict .code) 0) [
         | yes e ↦
-            (let s : result ≡ resultOf success = is (subst T (sym (eq-eqb (result .code) 0 e)) tt) in
-            let place : result .place ≡ 0 = ap (λ (r : CallResult). r .place) s in
+            (let s : verdict ≡ success = is (subst T (sym (eq-eqb (verdict .code) 0 e)) tt) in
+            let place : verdict .place ≡ 0 = ap (λ (r : Verdict). r .place) s in
             let line = jobLine (sizes .order) (sizes .block) (sizes .count) in
-            let last = endLine (result .code) (result .place) in
-            let short : length last ≡ 8 = ap length (ap (λ (c : ℕ). endLine c (result .place)) e ∙ ap (endLine 0) place) ∙ end-success in
+            let last = endLine (verdict .code) (verdict .place) in
+            let short : length last ≡ 8 = ap length (ap (λ (c : ℕ). endLine c (verdict .place)) e ∙ ap (endLine 0) place) ∙ end-success in
             omega (
               arith,
-              ap length (accepted-lines matrix rhs sizes result e),
+              ap length (accepted-lines matrix rhs sizes verdict e),
               length-append (line ++ solutionLines matrix rhs) last,
               length-append line (solutionLines matrix rhs),
               length-solutionLines matrix rhs,
@@ -191,53 +190,53 @@ module _ (sizes : Sizes) (inside : InBounds sizes) where
         | no e ↦
             omega (
               arith,
-              ap length (refused-lines matrix rhs sizes result e),
-              length-append (jobLine (sizes .order) (sizes .block) (sizes .count)) (endLine (result .code) (result .place)),
+              ap length (refused-lines matrix rhs sizes verdict e),
+              length-append (jobLine (sizes .order) (sizes .block) (sizes .count)) (endLine (verdict .code) (verdict .place)),
               job-short,
-              end-short (result .code) (result .place),
+              end-short (verdict .code) (verdict .place),
             )
       ]
 
 -- ---- a job that was solved
 
--- a result of a job that succeeds is success
-job-success : (job : Job) → Succeeds (jobResult job)
-unfolding jobResult jobEnded
+-- the verdict of a job that is accepted is success
+job-success : (job : Job) → Succeeds (jobVerdict job)
+unfolding jobVerdict jobEnded
 job-success job =
     let n = job .sizes .order in
     let b = job .sizes .block in
     go (firstRefusal (rule7 (job .matrix) ∷ rule8 (job .rhs) ∷ []))
     (pipeline-success n b (job .sizes .count) (job .matrix) (job .rhs) (replicate (blockWork n b) zero64))
   where
-    go : (v : Verdict) {r : CallResult} → Succeeds r → Succeeds (cond (accepted v) r (resultOf v))
+    go : (v : Verdict) {r : Verdict} → Succeeds r → Succeeds (cond (accepted v) r v)
     go v {r} f = at (accepted v) refl
       where
-        at : (t : Bool) → accepted v ≡ t → Succeeds (cond t r (resultOf v))
+        at : (t : Bool) → accepted v ≡ t → Succeeds (cond t r v)
         at true e = f
         at false e = λ h. absurd (rw e at h)
 
 -- 7 and 8 pass, and the pipeline ran
 pub job-ran :
     (job : Job) (u v : Verdict) (e : Ended) →
-    u ≡ rule7 (job .matrix) → u .code ≡ 0 → v ≡ rule8 (job .rhs) → v .code ≡ 0 → e ≡ jobEnded job → JobSolved job (e .solverResult) (e .matrix) (e .rhs)
-unfolding jobResult firstRefusal
+    u ≡ rule7 (job .matrix) → u .code ≡ 0 → v ≡ rule8 (job .rhs) → v .code ≡ 0 → e ≡ jobEnded job → JobSolved job (answer (e .solverResult) .verdict) (e .matrix) (e .rhs)
+unfolding jobVerdict firstRefusal
 job-ran job u v e p a q b i =
     let seven : accepted (rule7 (job .matrix)) ≡ true = ap accepted (sym p) ∙ eq-eqb (u .code) 0 a in
     let eight : accepted (rule8 (job .rhs)) ≡ true = ap accepted (sym q) ∙ eq-eqb (v .code) 0 b in
     record {
-      result = rw (seven, eight) (ap (λ (x : Ended). x .solverResult) i);
+      verdict = rw (seven, eight) (ap (λ (x : Ended). answer (x .solverResult) .verdict) i);
       matrix = λ h. ap (λ (x : Ended). x .matrix) i;
       rhs = λ h. ap (λ (x : Ended). x .rhs) i;
     }
 
 -- the lines of what was solved are the job's listing
-pub solved-lines : (job : Job) (r : CallResult) (m x : List Float) → JobSolved job r m x → resultLines (job .sizes) r m x ≡ listingOf job
+pub solved-lines : (job : Job) (r : Verdict) (m x : List Float) → JobSolved job r m x → resultLines (job .sizes) r m x ≡ listingOf job
 unfolding listingOf resultLines
-solved-lines job r m x s = go (succeeded r) refl
+solved-lines job r m x s = go (accepted r) refl
   where
-    go : (b : Bool) → succeeded r ≡ b → resultLines (job .sizes) r m x ≡ listingOf job
-    go true e = let t : T (succeeded r) = subst T (sym e) tt in ap (λ (y : CallResult). resultLines (job .sizes) y m x) (s .result) ∙ ap (λ (y : List Float). resultLines (job .sizes) (jobResult job) y x) (s .matrix t) ∙ ap (resultLines (job .sizes) (jobResult job) (jobEnded job .matrix)) (s .rhs t)
-    go false e = let f : succeeded (jobResult job) ≡ false = ap succeeded (sym (s .result)) ∙ e in let g = s .result in rw (g, f)
+    go : (b : Bool) → accepted r ≡ b → resultLines (job .sizes) r m x ≡ listingOf job
+    go true e = let t : T (accepted r) = subst T (sym e) tt in ap (λ (y : Verdict). resultLines (job .sizes) y m x) (s .verdict) ∙ ap (λ (y : List Float). resultLines (job .sizes) (jobVerdict job) y x) (s .matrix t) ∙ ap (resultLines (job .sizes) (jobVerdict job) (jobEnded job .matrix)) (s .rhs t)
+    go false e = let f : accepted (jobVerdict job) ≡ false = ap accepted (sym (s .verdict)) ∙ e in let g = s .verdict in rw (g, f)
 
 min-right : (n b : ℕ) → n ≤ 64 → min n b ≤ 64
 min-right n b h = omega arith
@@ -258,20 +257,17 @@ length-zeros size k z h = sym (ap length (take-zeros size k z h) ∙ length-repl
 
 -- the pipeline's end on the job's memory, with work memory lent from an array of zeros
 pub ended-as :
-    (job : Job) (n b needed : ℕ) (e : Ended) →
-    n ≡ job .sizes .order → b ≡ job .sizes .block → needed ≡ blockWork n b → needed ≤ 4096 →
-    e ≡ blockedPipeline n b (job .sizes .count) (job .matrix) (job .rhs) (take needed (replicate 4096 (ofBits binary64 0))) →
+    (job : Job) (needed : ℕ) (e : Ended) → needed ≡ blockWork (job .sizes .order) (job .sizes .block) → needed ≤ 4096 →
+    e ≡ blockedPipeline (job .sizes .order) (job .sizes .block) (job .sizes .count) (job .matrix) (job .rhs) (take needed (replicate 4096 (ofBits binary64 0))) →
     e ≡ jobEnded job
 unfolding jobEnded ofBits
-ended-as job n b needed e p q w h i =
-    let k : blockWork n b ≡ blockWork (job .sizes .order) (job .sizes .block) = ap (λ (x : ℕ). blockWork x b) p ∙ ap (blockWork (job .sizes .order)) q in
+ended-as job needed e w h i =
     i
-    ∙ ap (λ (x : List Float). blockedPipeline n b (job .sizes .count) (job .matrix) (job .rhs) x) (take-zeros 4096 needed (ofBits binary64 0) h ∙ ap (λ (x : ℕ). replicate x zero64) (w ∙ k))
-    ∙ ap (λ (x : ℕ). blockedPipeline x b (job .sizes .count) (job .matrix) (job .rhs) (replicate (blockWork (job .sizes .order) (job .sizes .block)) zero64)) p
-    ∙ ap (λ (x : ℕ). blockedPipeline (job .sizes .order) x (job .sizes .count) (job .matrix) (job .rhs) (replicate (blockWork (job .sizes .order) (job .sizes .block)) zero64)) q
+    ∙ ap (blockedPipeline (job .sizes .order) (job .sizes .block) (job .sizes .count) (job .matrix) (job .rhs))
+    (take-zeros 4096 needed (ofBits binary64 0) h ∙ ap (λ (x : ℕ). replicate x zero64) w)
 
-pub job-success-of : (job : Job) (r : CallResult) (m x : List Float) → JobSolved job r m x → T (succeeded r) → r ≡ resultOf success
-job-success-of job r m x s h = s .result ∙ job-success job (subst (λ (y : CallResult). T (succeeded y)) (s .result) h)
+pub job-success-of : (job : Job) (r : Verdict) (m x : List Float) → JobSolved job r m x → T (accepted r) → r ≡ success
+job-success-of job r m x s h = s .verdict ∙ job-success job (subst (λ (y : Verdict). T (accepted y)) (s .verdict) h)
 
 -- ---- what is written to memory of a given size
 

@@ -14,7 +14,7 @@ use borrow.Author.Tests.{lt-ltb, le-ltb, eq-eqb, ne-eqb}
 use lib.Pow.{pow-add}
 use Rattle.calls.specs.Sequences.{iterate, grow, tabulate}
 use Rattle.calls.proofs.Sequences.{length-tabulate}
-use Rattle.calls.specs.declared.CallResult.{CallResult}
+use Rattle.calls.specs.declared.Verdict.{Verdict}
 use Rattle.job.specs.declared.Sizes.{Sizes}
 use Rattle.job.specs.Writing.{overwrite, Written}
 use Rattle.job.specs.Listing.{digits, decimal, hexDigit, hexadecimal, jobLine, valueLine, valueLines, endLine, solutionLines, resultLines}
@@ -329,39 +329,39 @@ module _ (matrix rhs : List Float) where
       length-append (valueLines (70 ∷ 32 ∷ []) matrix) (valueLines (88 ∷ 32 ∷ []) rhs)
       ∙ omega (arith, length-valueLines (70 ∷ 32 ∷ []) matrix refl, length-valueLines (88 ∷ 32 ∷ []) rhs refl)
 
-  module _ (sizes : Sizes) (result : CallResult) where
-    pub refused-lines : (result .code ≡ 0 → ⊥) → jobLine (sizes .order) (sizes .block) (sizes .count) ++ endLine (result .code) (result .place) ≡ resultLines sizes result matrix rhs
+  module _ (sizes : Sizes) (verdict : Verdict) where
+    pub refused-lines : (verdict .code ≡ 0 → ⊥) → jobLine (sizes .order) (sizes .block) (sizes .count) ++ endLine (verdict .code) (verdict .place) ≡ resultLines sizes verdict matrix rhs
     unfolding resultLines
-    refused-lines h = rw (ne-eqb (result .code) 0 h, append-nil (jobLine (sizes .order) (sizes .block) (sizes .count)))
+    refused-lines h = rw (ne-eqb (verdict .code) 0 h, append-nil (jobLine (sizes .order) (sizes .block) (sizes .count)))
 
-    pub accepted-lines : result .code ≡ 0 → jobLine (sizes .order) (sizes .block) (sizes .count) ++ solutionLines matrix rhs ++ endLine (result .code) (result .place) ≡ resultLines sizes result matrix rhs
+    pub accepted-lines : verdict .code ≡ 0 → jobLine (sizes .order) (sizes .block) (sizes .count) ++ solutionLines matrix rhs ++ endLine (verdict .code) (verdict .place) ≡ resultLines sizes verdict matrix rhs
     unfolding resultLines
-    accepted-lines h = rw (eq-eqb (result .code) 0 h)
+    accepted-lines h = rw (eq-eqb (verdict .code) 0 h)
 
-  module _ (sizes : Sizes) (result : CallResult) (a : List ℕ) (fits : length (resultLines sizes result matrix rhs) ≤ length a) where
+  module _ (sizes : Sizes) (verdict : Verdict) (a : List ℕ) (fits : length (resultLines sizes verdict matrix rhs) ≤ length a) where
     pub job-fits : length (jobLine (sizes .order) (sizes .block) (sizes .count)) ≤ length a
     unfolding resultLines
     job-fits =
         omega (
           arith,
-          length-append (jobLine (sizes .order) (sizes .block) (sizes .count) ++ cond (eqb (result .code) 0) (solutionLines matrix rhs) []) (endLine (result .code) (result .place)),
-          length-append (jobLine (sizes .order) (sizes .block) (sizes .count)) (cond (eqb (result .code) 0) (solutionLines matrix rhs) []),
+          length-append (jobLine (sizes .order) (sizes .block) (sizes .count) ++ cond (eqb (verdict .code) 0) (solutionLines matrix rhs) []) (endLine (verdict .code) (verdict .place)),
+          length-append (jobLine (sizes .order) (sizes .block) (sizes .count)) (cond (eqb (verdict .code) 0) (solutionLines matrix rhs) []),
         )
 
-    pub refused-fits : (result .code ≡ 0 → ⊥) → length (jobLine (sizes .order) (sizes .block) (sizes .count)) + length (endLine (result .code) (result .place)) ≤ length a
+    pub refused-fits : (verdict .code ≡ 0 → ⊥) → length (jobLine (sizes .order) (sizes .block) (sizes .count)) + length (endLine (verdict .code) (verdict .place)) ≤ length a
     refused-fits h =
-        omega (arith, length-append (jobLine (sizes .order) (sizes .block) (sizes .count)) (endLine (result .code) (result .place)), ap length (refused-lines sizes result h))
+        omega (arith, length-append (jobLine (sizes .order) (sizes .block) (sizes .count)) (endLine (verdict .code) (verdict .place)), ap length (refused-lines sizes verdict h))
 
     pub accepted-fits :
-        result .code ≡ 0 →
-        length (jobLine (sizes .order) (sizes .block) (sizes .count)) + length (solutionLines matrix rhs) + length (endLine (result .code) (result .place)) ≤ length a
+        verdict .code ≡ 0 →
+        length (jobLine (sizes .order) (sizes .block) (sizes .count)) + length (solutionLines matrix rhs) + length (endLine (verdict .code) (verdict .place)) ≤ length a
     accepted-fits h =
         omega (
           arith,
-          length-append (jobLine (sizes .order) (sizes .block) (sizes .count) ++ solutionLines matrix rhs) (endLine (result .code) (result .place)),
+          length-append (jobLine (sizes .order) (sizes .block) (sizes .count) ++ solutionLines matrix rhs) (endLine (verdict .code) (verdict .place)),
           length-append (jobLine (sizes .order) (sizes .block) (sizes .count)) (solutionLines matrix rhs),
-          ap length (accepted-lines sizes result h),
+          ap length (accepted-lines sizes verdict h),
         )
 
-    pub two-fit : result .code ≡ 0 → 0 + length (jobLine (sizes .order) (sizes .block) (sizes .count) ++ solutionLines matrix rhs) ≤ length a
+    pub two-fit : verdict .code ≡ 0 → 0 + length (jobLine (sizes .order) (sizes .block) (sizes .count) ++ solutionLines matrix rhs) ≤ length a
     two-fit h = omega (arith, accepted-fits h, length-append (jobLine (sizes .order) (sizes .block) (sizes .count)) (solutionLines matrix rhs))

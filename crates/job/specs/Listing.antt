@@ -8,10 +8,10 @@ use lib.ListN.{length, getD, replicate}
 use lib.Ieee.{Float, nan, binary64, toBits}
 use Rattle.binary64.specs.Kinds.{zero64}
 use Rattle.shape.specs.Places.{blockWork}
-use Rattle.calls.specs.declared.CallResult.{CallResult}
+use Rattle.calls.specs.declared.Verdict.{Verdict}
 use Rattle.calls.specs.Sequences.{iterate, tabulate}
 use Rattle.calls.specs.Refusals.{accepted, rule7, rule8, firstRefusal}
-use Rattle.calls.specs.Calls.{resultOf, succeeded}
+use Rattle.calls.specs.Calls.{answer}
 use Rattle.calls.specs.Pipelines.{Ended, blockedPipeline}
 use Rattle.job.specs.declared.Sizes.{Sizes}
 use Rattle.job.specs.Reading.{Parsed, fault, found}
@@ -67,23 +67,23 @@ jobEnded job =
     let b = job .sizes .block in
     blockedPipeline n b (job .sizes .count) (job .matrix) (job .rhs) (replicate (blockWork n b) zero64)
 
-unfoldable pub jobResult : Job → CallResult
-jobResult job =
+unfoldable pub jobVerdict : Job → Verdict
+jobVerdict job =
     let values = firstRefusal (rule7 (job .matrix) ∷ rule8 (job .rhs) ∷ []) in
-    cond (accepted values) (jobEnded job .solverResult) (resultOf values)
+    cond (accepted values) (answer (jobEnded job .solverResult) .verdict) values
 
 -- After code 13 only `END` stands; after others `JOB` and `END`. The value lines hold the matrix and the right-hand sides at the pipeline's end.
 unfoldable pub solutionLines : List Float → List Float → List ℕ
 solutionLines matrix rhs = valueLines (70 ∷ space ∷ []) matrix ++ valueLines (88 ∷ space ∷ []) rhs
 
-unfoldable pub resultLines : Sizes → CallResult → List Float → List Float → List ℕ
-resultLines sizes result matrix rhs =
+unfoldable pub resultLines : Sizes → Verdict → List Float → List Float → List ℕ
+resultLines sizes verdict matrix rhs =
     jobLine (sizes .order) (sizes .block) (sizes .count)
-    ++ cond (succeeded result) (solutionLines matrix rhs) []
-    ++ endLine (result .code) (result .place)
+    ++ cond (accepted verdict) (solutionLines matrix rhs) []
+    ++ endLine (verdict .code) (verdict .place)
 
 unfoldable pub listingOf : Job → List ℕ
-listingOf job = resultLines (job .sizes) (jobResult job) (jobEnded job .matrix) (jobEnded job .rhs)
+listingOf job = resultLines (job .sizes) (jobVerdict job) (jobEnded job .matrix) (jobEnded job .rhs)
 
 abbrev pub listed : Parsed Job → List ℕ
 listed (fault place) = endLine 13 place
@@ -100,8 +100,8 @@ maxListing = 58998
 unfoldable pub listingIn : ℕ → List ℕ → List ℕ
 listingIn size file = cond (leb maxListing size) (listing file) []
 
--- what a solved job returns, and the memory that it leaves where it is accepted
-pub record JobSolved (job : Job) (r : CallResult) (matrix′ rhs′ : List Float) : Type 0 where
-  pub result : r ≡ jobResult job
-  pub matrix : T (succeeded r) → matrix′ ≡ jobEnded job .matrix
-  pub rhs : T (succeeded r) → rhs′ ≡ jobEnded job .rhs
+-- the verdict of a job, and the memory that it leaves where it is accepted
+pub record JobSolved (job : Job) (v : Verdict) (matrix′ rhs′ : List Float) : Type 0 where
+  pub verdict : v ≡ jobVerdict job
+  pub matrix : T (accepted v) → matrix′ ≡ jobEnded job .matrix
+  pub rhs : T (accepted v) → rhs′ ≡ jobEnded job .rhs

@@ -13,7 +13,7 @@ mod format;
 mod listing;
 mod reader;
 
-use calls::CallResult;
+use calls::Verdict;
 use checks::Values;
 use checks::check_finite;
 use engine::blocked_pipeline;
@@ -67,23 +67,25 @@ const WORK: usize = MAX_ORDER * MAX_ORDER;
 pub const LISTING: usize = 58998;
 
 // Codes 7 and 8 on the job's memory, then the blocked pipeline.
-fn solve_job(sizes: Sizes, matrix: &mut [f64], rhs: &mut [f64]) -> CallResult
+fn solve_job(sizes: Sizes, matrix: &mut [f64], rhs: &mut [f64]) -> Verdict
     requires { ⌜ InBounds sizes ⌝ }
     ensures { λ r. ⌜ JobSolved (record { sizes = sizes; matrix = now (matrix .entry); rhs = now (rhs .entry) }) r (now (matrix .exit)) (now (rhs .exit)) ⌝ }
 {
     let checked = check_finite(Values::Matrix, matrix);
     if checked.code != 0 {
-        return calls::result(checked);
+        return checked;
     }
     let checked = check_finite(Values::Rhs, rhs);
     if checked.code != 0 {
-        return calls::result(checked);
+        return checked;
     }
-    let shape = Shape::new(sizes.order, sizes.block);
-    let needed = shape.block_work();
+    let n = sizes.order;
+    let b = sizes.block;
+    let needed = Shape::new(n, b).block_work();
     let mut work = [0.0; WORK];
-    let ended = blocked_pipeline(shape, sizes.count, matrix, rhs, &mut work[..needed]);
-    ended.solver
+    let ended = blocked_pipeline(n, b, sizes.count, matrix, rhs, &mut work[..needed]);
+    let solver = ended.solver;
+    calls::verdict_of(solver)
 }
 
 fn list_solved(sizes: Sizes, matrix: &mut [f64], rhs: &mut [f64], out: &mut [u8]) -> usize
@@ -93,8 +95,8 @@ fn list_solved(sizes: Sizes, matrix: &mut [f64], rhs: &mut [f64], out: &mut [u8]
     requires { ⌜ maxListing ≤ length (now out) ⌝ }
     ensures { λ r. ⌜ Written 0 (listingOf (record { sizes = sizes; matrix = now (matrix .entry); rhs = now (rhs .entry) })) (now (out .entry)) r (now (out .exit)) ⌝ }
 {
-    let result = solve_job(sizes, matrix, rhs);
-    put_result(out, sizes, result, matrix, rhs)
+    let verdict = solve_job(sizes, matrix, rhs);
+    put_result(out, sizes, verdict, matrix, rhs)
 }
 
 fn list_contents(

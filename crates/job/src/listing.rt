@@ -7,7 +7,7 @@ ghost use Rattle.job.specs.Listing.{decimal, hexDigit, hexadecimal, jobL
 ghost use Rattle.job.specs.Writing.{Written};
 use crate::Sizes;
 use crate::floats::bits_of;
-use calls::CallResult;
+use calls::Verdict;
 
 fn put_text(out: &mut [u8], at: usize, text: &[u8]) -> usize
     requires { ⌜ at + length (now text) ≤ length (now out) ⌝ }
@@ -140,21 +140,21 @@ fn put_solution(out: &mut [u8], at: usize, matrix: &[f64], rhs: &[f64]) -> usize
     put_values(out, next, b"X ", rhs)
 }
 
-// The listing of a job that was read, with its result and its memory at the pipeline's end.
+// The listing of a job that was read, with its verdict and its memory at the pipeline's end.
 pub fn put_result(
     out: &mut [u8],
     sizes: Sizes,
-    result: CallResult,
+    verdict: Verdict,
     matrix: &[f64],
     rhs: &[f64],
 ) -> usize
-    requires { ⌜ length (resultLines sizes result (now matrix) (now rhs)) ≤ length (now out) ⌝ }
-    ensures { λ r. ⌜ Written 0 (resultLines sizes result (now (matrix .entry)) (now (rhs .entry))) (now (out .entry)) r (now (out .exit)) ⌝ }
+    requires { ⌜ length (resultLines sizes verdict (now matrix) (now rhs)) ≤ length (now out) ⌝ }
+    ensures { λ r. ⌜ Written 0 (resultLines sizes verdict (now (matrix .entry)) (now (rhs .entry))) (now (out .entry)) r (now (out .exit)) ⌝ }
 {
     let next = put_job(out, 0, sizes.order, sizes.block, sizes.count);
-    if result.code != 0 {
-        return put_end(out, next, result.code, result.place);
+    if verdict.code != 0 {
+        return put_end(out, next, verdict.code, verdict.place);
     }
     let next = put_solution(out, next, matrix, rhs);
-    put_end(out, next, result.code, result.place)
+    put_end(out, next, verdict.code, verdict.place)
 }

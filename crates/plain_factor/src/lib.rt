@@ -11,6 +11,7 @@ ghost use Rattle.calls.specs.Calls.{DoneAs, factorize};
 ghost use Rattle.plain_factor.specs.Steps.{Column, Group, Room, Tops, Same, lessProducts, TileReduced, RowsReduced, GroupReduced, PairReduced};
 ghost use Rattle.plain_factor.specs.Steps.{Reduced, Waiting, Formed, RowsDivided, Divided, Judged, Factored};
 use binary64::Pivot;
+use calls::Call;
 use calls::CallResult;
 use calls::Judgement;
 use calls::Layout;
@@ -464,7 +465,7 @@ fn factor_columns(matrix: &mut [f64], work: &mut [f64], n: usize) -> Judgement
 }
 
 // All columns, with the work memory cleared afterwards.
-fn factor_cleared(matrix: &mut [f64], work: &mut [f64], n: usize) -> Judgement
+pub fn factor_cleared(matrix: &mut [f64], work: &mut [f64], n: usize) -> Judgement
     requires { ⌜ (n ≤ maxOrder) × (length (now matrix) ≡ triangle n) × (length (now work) ≡ n) ⌝ }
     ensures { λ r. ⌜ Factored n (now (matrix .entry)) r (now (matrix .exit)) ⌝ }
     ensures { λ _. ⌜ now (work .exit) ≡ replicate n zero64 ⌝ }
@@ -476,12 +477,13 @@ fn factor_cleared(matrix: &mut [f64], work: &mut [f64], n: usize) -> Judgement
 
 // The plain factor of packed memory.
 pub fn factor(shape: Shape, matrix: &mut [f64], work: &mut [f64]) -> CallResult
-    ensures { λ r. ⌜ DoneAs (factorize Layout.Packed (shape .order) (shape .block) (now (matrix .entry)) (now (work .entry))) r (now (matrix .exit)) (now (work .exit)) ⌝ }
+    ensures { λ r. ⌜ DoneAs (factorize Layout.Packed shape (now (matrix .entry)) (now (work .entry))) r (now (matrix .exit)) (now (work .exit)) ⌝ }
 {
+    let call = Call::Factor(Layout::Packed);
     let checks = checks::check_factor(Layout::Packed, shape, matrix, work.len());
     if !calls::accepted(checks) {
-        return calls::result(checks);
+        return calls::result(call, shape, checks);
     }
     let n = shape.order;
-    calls::judged_result(factor_cleared(matrix, &mut work[..n], n))
+    calls::judged_result(call, shape, factor_cleared(matrix, &mut work[..n], n))
 }

@@ -6,6 +6,7 @@ ghost use Rattle.binary64.specs.Kinds.{zero64};
 ghost use Rattle.shape.specs.Bounds.{maxOrder, maxBlock};
 ghost use Rattle.shape.specs.Places.{triangle, blockWork};
 ghost use Rattle.calls.specs.Calls.{DoneAs, moved, rearrange, packedToBlocked, blockedToPacked};
+ghost use Rattle.rearrange.specs.Moves as Moves;
 ghost use Rattle.rearrange.specs.Moves.{other};
 
 mod below;
@@ -13,6 +14,7 @@ mod block;
 mod diagonal;
 
 use block::move_block;
+use calls::Call;
 use calls::CallResult;
 use calls::Layout;
 use shape::Shape;
@@ -47,26 +49,37 @@ fn move_and_clear(to: Layout, shape: Shape, matrix: &mut [f64], work: &mut [f64]
     checks::clear(work);
 }
 
-fn rearrange_to(to: Layout, shape: Shape, matrix: &mut [f64], work: &mut [f64]) -> CallResult
-    ensures { λ r. ⌜ DoneAs (rearrange (other to) to (shape .order) (shape .block) (now (matrix .entry)) (now (work .entry))) r (now (matrix .exit)) (now (work .exit)) ⌝ }
+fn other(layout: Layout) -> Layout
+    ensures { λ r. ⌜ r ≡ Moves.other layout ⌝ }
 {
-    let checks = checks::check_rearranger(shape, matrix.len(), work.len());
+    match layout {
+        Layout::Packed => Layout::Blocked,
+        Layout::Blocked => Layout::Packed,
+    }
+}
+
+fn rearrange_to(to: Layout, shape: Shape, matrix: &mut [f64], work: &mut [f64]) -> CallResult
+    ensures { λ r. ⌜ DoneAs (rearrange (other to) to shape (now (matrix .entry)) (now (work .entry))) r (now (matrix .exit)) (now (work .exit)) ⌝ }
+{
+    let from = other(to);
+    let call = Call::Rearranger(from, to);
+    let checks = checks::check_rearranger(from, to, shape, matrix.len(), work.len());
     if !calls::accepted(checks) {
-        return calls::result(checks);
+        return calls::result(call, shape, checks);
     }
     let needed = shape.block_work();
     move_and_clear(to, shape, matrix, &mut work[..needed]);
-    calls::result(checks)
+    calls::result(call, shape, checks)
 }
 
 pub fn packed_to_blocked(shape: Shape, matrix: &mut [f64], work: &mut [f64]) -> CallResult
-    ensures { λ r. ⌜ DoneAs (packedToBlocked (shape .order) (shape .block) (now (matrix .entry)) (now (work .entry))) r (now (matrix .exit)) (now (work .exit)) ⌝ }
+    ensures { λ r. ⌜ DoneAs (packedToBlocked shape (now (matrix .entry)) (now (work .entry))) r (now (matrix .exit)) (now (work .exit)) ⌝ }
 {
     rearrange_to(Layout::Blocked, shape, matrix, work)
 }
 
 pub fn blocked_to_packed(shape: Shape, matrix: &mut [f64], work: &mut [f64]) -> CallResult
-    ensures { λ r. ⌜ DoneAs (blockedToPacked (shape .order) (shape .block) (now (matrix .entry)) (now (work .entry))) r (now (matrix .exit)) (now (work .exit)) ⌝ }
+    ensures { λ r. ⌜ DoneAs (blockedToPacked shape (now (matrix .entry)) (now (work .entry))) r (now (matrix .exit)) (now (work .exit)) ⌝ }
 {
     rearrange_to(Layout::Packed, shape, matrix, work)
 }

@@ -1,4 +1,4 @@
-// The shape of a matrix: its order and block length, with their bounds and the places of its entries.
+// The shape of a matrix: its order and block length, with their bounds and the places of its entries, and the state of its memory.
 ghost use mathlib.Core.Path.{_≡_};
 ghost use mathlib.Core.Bool.{_&&_};
 ghost use Prim.Native.Nat.{_≤_, _<_, min};
@@ -7,11 +7,12 @@ ghost use Rattle.shape.specs.Bounds.{maxOrder, maxBlock, maxRhs};
 ghost use Rattle.shape.specs.Places.{triangle, packedPlace, blockOf, blockStart, width, placeInBlock, blockedPlace, blockWork};
 ghost use Rattle.shape.specs.Layouts.{Entry};
 
-// Any numbers: the calls examine them.
+// Any numbers: the calls examine them. What a state's number means is said in crate calls.
 #[repr(C)]
 pub struct Shape {
     pub order: usize,
     pub block: usize,
+    pub state: usize,
 }
 
 pub fn least(a: usize, b: usize) -> usize
@@ -27,10 +28,15 @@ impl Shape {
 
     pub const MAX_RHS: usize = 1000;
 
+    // A packed matrix that no call has seen: state 0. A part of a matrix has a shape too, whose state is not looked at.
     pub fn new(order: usize, block: usize) -> Self
-        ensures { λ r. ⌜ (r .order ≡ order) × (r .block ≡ block) ⌝ }
+        ensures { λ r. ⌜ (r .order ≡ order) × (r .block ≡ block) × (r .state ≡ 0) ⌝ }
     {
-        Self { order, block }
+        Self {
+            order,
+            block,
+            state: 0,
+        }
     }
 
     pub fn order_in_bounds(self) -> bool

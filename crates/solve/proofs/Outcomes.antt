@@ -7,21 +7,29 @@ use lib.ListN.{length, take, drop, replicate}
 use lib.Seq.{length-take-le}
 use lib.Ieee.{Float}
 use Rattle.binary64.specs.Kinds.{zero64}
+use Rattle.shape.specs.declared.Shape.{Shape}
 use Rattle.calls.specs.declared.Verdict.{Verdict}
 use Rattle.calls.specs.declared.Layout.{Layout}
+use Rattle.calls.specs.declared.Call.the-variants.{Solver}
 use Rattle.calls.specs.Refusals.{accepted}
 use Rattle.calls.specs.Calls.{SolvedAs, resultOf, clear, solverChecks, solutions, solved, solve}
 use Rattle.calls.proofs.CheckLaws.{SolverAccepted, solver-accepted}
 use Rattle.solve.specs.Solving.{Checked, factorOf, AllSolved}
 
-module _ (layout : Layout) (n b m : ℕ) (a rhs w : List Float) (checks : Verdict) (e : checks ≡ solverChecks layout n b m a rhs (length w)) where
-  pub checks-refused : accepted checks ≡ false → SolvedAs (solve layout n b m a rhs w) (resultOf checks) rhs w
+module _ (layout : Layout) (shape : Shape) (m : ℕ) (a rhs w : List Float) (checks : Verdict) (e : checks ≡ solverChecks layout shape m a rhs (length w)) where
+  abbrev n : ℕ
+  n = shape .order
+
+  abbrev b : ℕ
+  b = shape .block
+
+  pub checks-refused : accepted checks ≡ false → SolvedAs (solve layout shape m a rhs w) (resultOf (Solver layout) shape checks) rhs w
   unfolding solve
-  checks-refused f = rw (ap accepted (sym e) ∙ f) (record { result = ap resultOf e; rhs = refl; work = refl })
+  checks-refused f = rw (ap accepted (sym e) ∙ f) (record { result = ap (resultOf (Solver layout) shape) e; rhs = refl; work = refl })
 
   module _ (t : accepted checks ≡ true) where
-    checks-accepted : SolverAccepted layout n b m a rhs (length w)
-    checks-accepted = solver-accepted layout n b m a rhs (length w) (rw (ap accepted (sym e) ∙ t) tt)
+    checks-accepted : SolverAccepted layout shape m a rhs (length w)
+    checks-accepted = solver-accepted layout shape m a rhs (length w) (rw (ap accepted (sym e) ∙ t) tt)
 
     pub work-fits : n ≤ length w
     work-fits = checks-accepted .sizes .work
@@ -39,12 +47,12 @@ module _ (layout : Layout) (n b m : ℕ) (a rhs w : List Float) (checks : Verdic
 
     pub all-done :
         (r : Verdict) (rhs′ : List Float) → AllSolved n m (factorOf layout n b a) rhs r rhs′ →
-        SolvedAs (solve layout n b m a rhs w) (resultOf r) rhs′ (replicate n zero64 ++ drop n w)
+        SolvedAs (solve layout shape m a rhs w) (resultOf (Solver layout) shape r) rhs′ (replicate n zero64 ++ drop n w)
     unfolding solve solved clear
     all-done r rhs′ f =
         rw (ap accepted (sym e) ∙ t)
         (record {
-          result = ap resultOf (f .result);
+          result = ap (resultOf (Solver layout) shape) (f .result);
           rhs = f .kept ∙ ap (λ v. solutions n (factorOf layout n b a) (cond (accepted v) m (v .place)) rhs) (f .result);
           work = refl;
         })

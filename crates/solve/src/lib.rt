@@ -19,7 +19,7 @@ pub fn solve_plain(
     rhs: &mut [f64],
     work: &mut [f64],
 ) -> CallResult
-    ensures { λ r. ⌜ SolvedAs (Calls.solve Packed (shape .order) (shape .block) m (now (matrix .entry)) (now (rhs .entry)) (now (work .entry))) r (now (rhs .exit)) (now (work .exit)) ⌝ }
+    ensures { λ r. ⌜ SolvedAs (Calls.solve Packed shape m (now (matrix .entry)) (now (rhs .entry)) (now (work .entry))) r (now (rhs .exit)) (now (work .exit)) ⌝ }
 {
     rhs::solve(Layout::Packed, shape, m, matrix, rhs, work)
 }
@@ -31,7 +31,7 @@ pub fn solve_blocked(
     rhs: &mut [f64],
     work: &mut [f64],
 ) -> CallResult
-    ensures { λ r. ⌜ SolvedAs (Calls.solve Blocked (shape .order) (shape .block) m (now (matrix .entry)) (now (rhs .entry)) (now (work .entry))) r (now (rhs .exit)) (now (work .exit)) ⌝ }
+    ensures { λ r. ⌜ SolvedAs (Calls.solve Blocked shape m (now (matrix .entry)) (now (rhs .entry)) (now (work .entry))) r (now (rhs .exit)) (now (work .exit)) ⌝ }
 {
     rhs::solve(Layout::Blocked, shape, m, matrix, rhs, work)
 }

@@ -9,6 +9,7 @@ ghost use Rattle.calls.specs.Calls.{SolvedAs};
 ghost use Rattle.solve.specs.Solving.{Checked, factorOf, Substituted, RhsSolved, AllSolved};
 use crate::blocked;
 use crate::plain;
+use calls::Call;
 use calls::CallResult;
 use calls::Layout;
 use calls::Verdict;
@@ -124,12 +125,14 @@ pub fn solve(
     rhs: &mut [f64],
     work: &mut [f64],
 ) -> CallResult
-    ensures { λ r. ⌜ SolvedAs (Calls.solve layout (shape .order) (shape .block) m (now (matrix .entry)) (now (rhs .entry)) (now (work .entry))) r (now (rhs .exit)) (now (work .exit)) ⌝ }
+    ensures { λ r. ⌜ SolvedAs (Calls.solve layout shape m (now (matrix .entry)) (now (rhs .entry)) (now (work .entry))) r (now (rhs .exit)) (now (work .exit)) ⌝ }
 {
+    let call = Call::Solver(layout);
     let checks = checks::check_solver(layout, shape, m, matrix, rhs, work.len());
     if !calls::accepted(checks) {
-        return calls::result(checks);
+        return calls::result(call, shape, checks);
     }
     let n = shape.order;
-    calls::result(solve_cleared(layout, shape, m, matrix, rhs, &mut work[..n]))
+    let verdict = solve_cleared(layout, shape, m, matrix, rhs, &mut work[..n]);
+    calls::result(call, shape, verdict)
 }

@@ -28,17 +28,17 @@ returns c =
     let check-factor = c .before .before .before .check-factor in
     let accepted = c .before .before .accepted in
     rw (c .result .ensures)
-    (factor-refused Packed (a .shape .order) (a .shape .block) (a .matrix .now) (a .work .now) (check-factor .result) (check-factor .ensures)
+    (factor-refused Packed (a .shape) (a .matrix .now) (a .work .now) (check-factor .result) (check-factor .ensures)
     (refused-of (accepted .result) (check-factor .result) (accepted .ensures) (c .before .if1 .taken)))
 
 passed : (c : tie.Else1)
     → let a = c .before .before .before .before .before .before .args in
-    FactorAccepted Packed (a .shape .order) (a .shape .block) (a .matrix .now) (length (a .work .now))
+    FactorAccepted Packed (a .shape) (a .matrix .now) (length (a .work .now))
 passed c =
     let a = c .before .before .before .before .before .before .args in
     let check-factor = c .before .before .check-factor in
     let accepted = c .before .accepted in
-    factor-passed Packed (a .shape .order) (a .shape .block) (a .matrix .now) (a .work .now) (check-factor .result) (check-factor .ensures)
+    factor-passed Packed (a .shape) (a .matrix .now) (a .work .now) (check-factor .result) (check-factor .ensures)
     (accepted-of (accepted .result) (check-factor .result) (accepted .ensures) (c .if1 .left))
 
 slice-relend-prefix-factor-cleared : tie.Need-slice-relend-prefix-factor-cleared
@@ -69,7 +69,7 @@ returns-2 c =
     let accepted = c .before .before .before .before .before .before .before .before .before .accepted in
     let if1 = c .before .before .before .before .before .before .before .before .if1 in
     rw (c .judged-result .ensures, factor-cleared .ensures .1)
-    (columns-done (a .shape .order) (a .shape .block) (a .matrix .now) (a .work .now) (factor-cleared .result) (check-factor .result)
+    (columns-done (a .shape) (a .matrix .now) (a .work .now) (factor-cleared .result) (check-factor .result)
     (factor-cleared .last .0) (check-factor .ensures)
     (accepted-of (accepted .result) (check-factor .result) (accepted .ensures) (if1 .left)) (factor-cleared .ensures .0))
 

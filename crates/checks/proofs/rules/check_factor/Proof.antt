@@ -7,7 +7,8 @@ use Rattle.calls.specs.declared.Call.the-variants.{Factor}
 use Rattle.calls.specs.Refusals.{rule7}
 use Rattle.calls.specs.Calls.{factorChecks}
 use Rattle.calls.proofs.Judging.{refused-of, accepted-of, first-decided, first-continued}
-use Rattle.calls.proofs.CheckLaws.{finite-alone, sizeRules}
+use Rattle.calls.proofs.Checks.{sizeRules}
+use Rattle.calls.proofs.CheckLaws.{finite-alone}
 use Rattle.checks.proofs.rules.check_factor.Statement.{statement}
 use Rattle.checks.proofs.rules.check_factor.Tie as tie
 
@@ -24,7 +25,7 @@ returns c =
     let matrix = args .matrix .now in
     let sizes = c .before .before .check-sizes in
     let refused = refused-of (c .before .accepted .result) (sizes .result) (c .before .accepted .ensures) (c .if1 .taken) in
-    first-decided (sizeRules (Factor (args .layout)) (args .shape .order) (args .shape .block) (length matrix) (args .work)) (rule7 matrix ∷ [])
+    first-decided (sizeRules (Factor (args .layout)) (args .shape) (length matrix) (args .work)) (rule7 matrix ∷ [])
     (sizes .result) (sizes .ensures) refused
 
 check-finite-requires : tie.Need-check-finite-requires
@@ -40,7 +41,7 @@ returns-2 c =
     c .check-finite .ensures
     ∙ sym (finite-alone 6 matrix)
     ∙ sym
-    (first-continued (sizeRules (Factor (args .layout)) (args .shape .order) (args .shape .block) (length matrix) (args .work)) (rule7 matrix ∷ [])
+    (first-continued (sizeRules (Factor (args .layout)) (args .shape) (length matrix) (args .work)) (rule7 matrix ∷ [])
     (sizes .result) (sizes .ensures) passed)
 
 pub check-factor-spec : {M : Type 1} → statement M

@@ -11,17 +11,18 @@ use Rattle.calls.specs.Triangles.{placeOf}
 use Rattle.calls.specs.Refusals.{accepted, firstRefusal, rule5, rule6, rule7, rule8, rule9}
 use Rattle.calls.specs.Calls.{solverChecks}
 use Rattle.calls.proofs.Judging.{refused-of, accepted-of, first-decided, first-continued}
-use Rattle.calls.proofs.CheckLaws.{finite-alone, rule9-alone, SizesAccepted, sizeRules, sizes-accepted}
+use Rattle.calls.proofs.Checks.{sizeRules}
+use Rattle.calls.proofs.CheckLaws.{finite-alone, rule9-alone, SizesAccepted, sizes-accepted}
 use Rattle.checks.proofs.rules.check_solver.Statement.{statement}
 use Rattle.checks.proofs.rules.check_solver.Tie as tie
 
 -- ---- the parts, of the arguments
 
 abbrev checks : tie.Start → Verdict
-checks s = solverChecks (s .args .layout) (s .args .shape .order) (s .args .shape .block) (s .args .m) (s .args .matrix .now) (s .args .rhs .now) (s .args .work)
+checks s = solverChecks (s .args .layout) (s .args .shape) (s .args .m) (s .args .matrix .now) (s .args .rhs .now) (s .args .work)
 
 abbrev sizes : tie.Start → List Verdict
-sizes s = sizeRules (Solver (s .args .layout)) (s .args .shape .order) (s .args .shape .block) (length (s .args .matrix .now)) (s .args .work)
+sizes s = sizeRules (Solver (s .args .layout)) (s .args .shape) (length (s .args .matrix .now)) (s .args .work)
 
 abbrev rhsSizes : tie.Start → List Verdict
 rhsSizes s = rule5 (s .args .m) ∷ rule6 (s .args .shape .order) (s .args .m) (length (s .args .rhs .now)) ∷ []
@@ -40,13 +41,13 @@ diagonal s = rule9 (placeOf (s .args .layout) (s .args .shape .order) (s .args .
 settled :
     (c : tie.Else1) →
     let s = c .before .before .before .before .before in
-    SizesAccepted (Solver (s .args .layout)) (s .args .shape .order) (s .args .shape .block) (length (s .args .matrix .now)) (s .args .work)
+    SizesAccepted (Solver (s .args .layout)) (s .args .shape) (length (s .args .matrix .now)) (s .args .work)
 settled c =
     let s = c .before .before .before .before .before in
     let r = c .before .before .check-sizes in
     let passed = accepted-of (c .before .accepted .result) (r .result) (c .before .accepted .ensures) (c .if1 .left) in
     let all-passed : accepted (firstRefusal (sizes s)) ≡ true = rw (← r .ensures) passed in
-    sizes-accepted (Solver (s .args .layout)) (s .args .shape .order) (s .args .shape .block) (length (s .args .matrix .now)) (s .args .work) []
+    sizes-accepted (Solver (s .args .layout)) (s .args .shape) (length (s .args .matrix .now)) (s .args .work) []
     (rw all-passed tt) .0
 
 past-sizes :

@@ -35,10 +35,10 @@ same-length-6 c = search needs
 returns : tie.Need-returns
 returns c =
     let a = c .before .before .before .before .before .before .before .before .before .before .before .before .before .before .before .before .before .before .before .before .before .before .before .before .before .before .args in
-    both-ran (a .shape .order) (a .shape .block) (a .m) (memory (now (a .matrix)) (now (a .rhs)) (now (a .work)))
+    both-ran (a .order) (a .block) (a .m) (memory (now (a .matrix)) (now (a .rhs)) (now (a .work)))
     (memory (now (a .matrix2)) (now (a .rhs2)) (now (a .work2))) _ _ _
-    (all-of (fits binary64) (now (a .matrix)) nan
-    (λ i p. c .before .before .before .before .before .before .before .before .before .before .before .before .before .before .before .before .before .before .before .before .before .before .before .before .before .slice-known .given i)) (c .before .before .before .before .before .before .before .before .before .before .before .before .before .before .before .before .plain-pipeline .ensures) (c .before .before .before .before .before .before .blocked-pipeline .ensures)
+    (all-of (fits binary64) (now (a .matrix)) nan (λ i p. c .before .before .before .before .before .before .before .before .before .before .before .before .before .before .before .before .before .before .before .before .before .before .before .before .before .slice-known .given i))
+    (c .before .before .before .before .before .before .before .before .before .before .before .before .before .before .before .before .plain-pipeline .ensures) (c .before .before .before .before .before .before .blocked-pipeline .ensures)
 
 pub run-both-spec : {M : Type 1} → statement M
 run-both-spec =

@@ -24,7 +24,7 @@ returns c =
     let check-solver = c .before .before .before .check-solver in
     let accepted = c .before .before .accepted in
     rw (c .result .ensures)
-    (checks-refused (a .layout) (a .shape .order) (a .shape .block) (a .m) (a .matrix .now) (a .rhs .now) (a .work .now) (check-solver .result)
+    (checks-refused (a .layout) (a .shape) (a .m) (a .matrix .now) (a .rhs .now) (a .work .now) (check-solver .result)
     (check-solver .ensures) (refused-of (accepted .result) (check-solver .result) (accepted .ensures) (c .before .if1 .taken)))
 
 slice-relend-prefix-solve-cleared : tie.Need-slice-relend-prefix-solve-cleared
@@ -32,7 +32,7 @@ slice-relend-prefix-solve-cleared c =
     let a = c .before .before .before .before .before .before .before .before .args in
     let check-solver = c .before .before .before .check-solver in
     let accepted = c .before .before .accepted in
-    work-fits (a .layout) (a .shape .order) (a .shape .block) (a .m) (a .matrix .now) (a .rhs .now) (a .work .now) (check-solver .result)
+    work-fits (a .layout) (a .shape) (a .m) (a .matrix .now) (a .rhs .now) (a .work .now) (check-solver .result)
     (check-solver .ensures) (accepted-of (accepted .result) (check-solver .result) (accepted .ensures) (c .before .if1 .left))
 
 slice-aggregate-solve-cleared : tie.Need-slice-aggregate-solve-cleared
@@ -40,7 +40,7 @@ slice-aggregate-solve-cleared c =
     let a = c .before .before .before .before .before .before .before .before .before .args in
     let check-solver = c .before .before .before .before .check-solver in
     let accepted = c .before .before .before .accepted in
-    sym (part-length (a .layout) (a .shape .order) (a .shape .block) (a .m) (a .matrix .now) (a .rhs .now) (a .work .now) (check-solver .result)
+    sym (part-length (a .layout) (a .shape) (a .m) (a .matrix .now) (a .rhs .now) (a .work .now) (check-solver .result)
     (check-solver .ensures) (accepted-of (accepted .result) (check-solver .result) (accepted .ensures) (c .before .before .if1 .left)))
 
 solve-cleared-requires : tie.Need-solve-cleared-requires
@@ -49,10 +49,9 @@ solve-cleared-requires c κs =
     let check-solver = c .before .before .before .before .check-solver in
     let accepted = c .before .before .before .accepted in
     let if1 = c .before .before .if1 in (
-      checked (a .layout) (a .shape .order) (a .shape .block) (a .m) (a .matrix .now) (a .rhs .now) (a .work .now) (check-solver .result)
+      checked (a .layout) (a .shape) (a .m) (a .matrix .now) (a .rhs .now) (a .work .now) (check-solver .result)
           (check-solver .ensures) (accepted-of (accepted .result) (check-solver .result) (accepted .ensures) (if1 .left)),
-      rhs-length (a .layout)
-          (a .shape .order) (a .shape .block) (a .m) (a .matrix .now) (a .rhs .now) (a .work .now) (check-solver .result) (check-solver .ensures)
+      rhs-length (a .layout) (a .shape) (a .m) (a .matrix .now) (a .rhs .now) (a .work .now) (check-solver .result) (check-solver .ensures)
           (accepted-of (accepted .result) (check-solver .result) (accepted .ensures) (if1 .left)),
     )
 
@@ -72,7 +71,7 @@ returns-2 c =
     let check-solver = c .before .before .before .before .before .before .before .before .before .before .check-solver in
     let accepted = c .before .before .before .before .before .before .before .before .before .accepted in
     rw (c .result2 .ensures, solve-cleared .ensures .1)
-    (all-done (a .layout) (a .shape .order) (a .shape .block) (a .m) (a .matrix .now) (a .rhs .now) (a .work .now) (check-solver .result)
+    (all-done (a .layout) (a .shape) (a .m) (a .matrix .now) (a .rhs .now) (a .work .now) (check-solver .result)
     (check-solver .ensures) (accepted-of (accepted .result) (check-solver .result) (accepted .ensures)
     (c .before .before .before .before .before .before .before .before .if1 .left)) (solve-cleared .result) (solve-cleared .last .1 .1 .1 .1 .0)
     (solve-cleared .ensures .0))

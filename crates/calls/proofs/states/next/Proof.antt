@@ -1,0 +1,64 @@
+-- `calls::states::next` meets its contract, by cases on the call. Assumes nothing.
+use mathlib.Core.Path.{refl}
+use borrow.Author.Needs.{needs}
+use borrow.Author.Tests.{eq-eqb, ne-eqb}
+use Rattle.calls.specs.States.{lookUp}
+use Rattle.calls.proofs.states.next.Statement.{statement}
+use Rattle.calls.proofs.states.next.Tie as tie
+
+enum-known-call : tie.Need-enum-known-call
+enum-known-call c = search needs
+
+state-number-requires : tie.Need-state-number-requires
+state-number-requires c κs = search needs
+
+returns : tie.Need-returns
+unfolding lookUp
+returns c =
+    let args = c .before .before .before .before .before .args in
+    let raw = c .before .state-number in
+    rw (c .before .before .before .call .given .1, ← raw .ensures, eq-eqb (args .state) (raw .result) (c .if1 .taken)) refl
+
+row-requires : tie.Need-row-requires
+row-requires c κs = search needs
+
+enum-known-call-2 : tie.Need-enum-known-call-2
+enum-known-call-2 c = search needs
+
+row-requires-2 : tie.Need-row-requires-2
+row-requires-2 c κs = search needs
+
+enum-known-call-3 : tie.Need-enum-known-call-3
+enum-known-call-3 c = search needs
+
+row-requires-3 : tie.Need-row-requires-3
+row-requires-3 c κs = search needs
+
+returns-2 : tie.Need-returns-2
+unfolding lookUp
+returns-2 c =
+    let args = c .before .before .before .before .before .before .args in
+    let raw = c .before .before .state-number in
+    rw (c .before .before .before .before .call .given .1, ← raw .ensures, ne-eqb (args .state) (raw .result) (c .before .if1 .left)) (c .row .ensures)
+
+returns-3 : tie.Need-returns-3
+returns-3 c = rw (c .before .before .call2 .given .1) (c .row2 .ensures)
+
+returns-4 : tie.Need-returns-4
+returns-4 c = rw (c .before .before .call3 .given .1) (c .row3 .ensures)
+
+pub next-spec : {M : Type 1} → statement M
+next-spec =
+    tie.close
+    (tie.spec
+    enum-known-call
+    state-number-requires
+    returns
+    row-requires
+    enum-known-call-2
+    row-requires-2
+    enum-known-call-3
+    row-requires-3
+    returns-2
+    returns-3
+    returns-4)
