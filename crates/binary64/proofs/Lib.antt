@@ -9,4 +9,5 @@ pub mod Midpoints
 pub mod Values
 pub mod RootLaws
 pub mod Differences
+pub mod Zeros
 pub mod AsBefore

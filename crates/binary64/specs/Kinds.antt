@@ -66,6 +66,9 @@ finite x = finiteKind (kind x)
 abbrev pub zero64 : Float
 zero64 = fin false 0 (pos 0)
 
+abbrev pub one64 : Float
+one64 = fin false 1 (pos 0)
+
 -- greater than zero: no zero of either sign and no NaN is, +infinity is
 unfoldable pub positive : Float → Bool
 positive x = lt zero64 x

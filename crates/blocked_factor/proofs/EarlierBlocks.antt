@@ -13,12 +13,11 @@ use Rattle.shape.proofs.Blocks.{block-of-le, block-of-lt, block-of-block, block
 use Rattle.shape.proofs.Runs.{block-of-add, blocked-place-from}
 use Rattle.shape.proofs.Bounds.{block-start-mono}
 use Rattle.calls.specs.Arithmetic.{minusProducts}
-use Rattle.calls.proofs.Columns.{products-same}
+use Rattle.calls.proofs.Columns.{products-same, minus-add}
 use Rattle.kernels.specs.Kernels.{runAt}
 use Rattle.blocked_factor.specs.BlockColumns.{rowStart, PanelUpdated}
 use Rattle.blocked_factor.specs.BlockSteps.{BlockAt, rowOf}
 use Rattle.blocked_factor.specs.Runs.{RunBefore}
-use Rattle.kernels.proofs.Products.{minus-add}
 use Rattle.kernels.proofs.Runs.{row-under}
 use Rattle.blocked_factor.proofs.BlockRows.{row-lt}
 

@@ -13,9 +13,8 @@ use lib.Ieee.{Float, nan, binary64, div}
 use Rattle.binary64.specs.Root.{root}
 use Rattle.calls.specs.Triangles.{Triangle, entry}
 use Rattle.calls.specs.Arithmetic.{minusProducts, pivot, quotient}
-use Rattle.calls.proofs.Columns.{columns, products-same, entry-diagonal, entry-quotient}
+use Rattle.calls.proofs.Columns.{columns, products-same, minus-add, entry-diagonal, entry-quotient}
 use Rattle.calls.proofs.Entries.{row-products}
-use Rattle.kernels.proofs.Products.{minus-add}
 use Rattle.kernels.specs.Kernels.{rowAt}
 use Rattle.blocked_factor.specs.BlockColumns.{rowStart, lessPanel, PanelUpdated}
 use Rattle.blocked_factor.specs.BlockStages.{factorEntry, lessProducts, Stage, allRows, rowsTo, topRows}

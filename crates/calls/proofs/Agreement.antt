@@ -33,7 +33,7 @@ use Rattle.calls.proofs.Triangles.{Shaped, shaped-load, length-store, s
 use Rattle.calls.proofs.Refusals.{cond-both, first-passes, lowest-same, lowest-accepted, refuse-holds, none-holds, first-holds, lowest-holds, finite-rule}
 use Rattle.calls.proofs.Columns.{columns, shaped-columns, FiniteMatrix, finite-matrix, columns-finite}
 use Rattle.calls.proofs.StateLaws.{solver-keeps, state-spent, columns-spend, factor-state}
-use Rattle.calls.proofs.CheckLaws.{Keeps, finite-holds, low-keeps, rhs-keeps}
+use Rattle.calls.proofs.CheckLaws.{positiveAt, rule9-whole, Keeps, finite-holds, low-keeps, rhs-keeps}
 use Rattle.calls.proofs.Checks.{Sizes, sizes-pass, rearranger-checks, factor-checks, rule5-passes, rule6-passes, length-clear}
 use Rattle.calls.proofs.Rearranging.{layout-bijection, length-moved, load-moved}
 
@@ -115,7 +115,7 @@ stored-finite place n bij l s f memory whole =
     (subst (λ x. T (finite x)) (sym (store-same place n bij l n s memory (omega arith) (from .0) (from .1) nan e inside)) (f (from .0) (from .1) e)))
 
 -- an order and a block length with the state of their memory
-abbrev inState : State → ℕ → ℕ → Shape
+abbrev pub inState : State → ℕ → ℕ → Shape
 inState state n b = record { order = n; block = b; state = stateNumber state }
 
 module _ (n b m : ℕ) (order : n ≤ maxOrder) (low : 1 ≤ b) (high : b ≤ maxBlock) (count : m ≤ maxRhs) (layout : Layout) where
@@ -123,10 +123,11 @@ module _ (n b m : ℕ) (order : n ≤ maxOrder) (low : 1 ≤ b) (high : b ≤ ma
   place = placeOf layout n b
 
   module _ (l : Triangle) (s : Shaped n n l) (f : (i j : ℕ) → Entry n i j → T (finite (entry l i j))) (memory : List Float) (whole : length memory ≡ triangle n) where
-    diagonal-same : rule9 place n (store place l memory) ≡ diagonalRule n l
-    unfolding rule9 diagonalRule
+    diagonal-same : rule9 place 0 n (store place l memory) ≡ diagonalRule n l
+    unfolding diagonalRule
     diagonal-same =
-        lowest-same (λ j. refuseIf (not (positive (getD (store place l memory) (place j j) nan))) (refusal 9 j zero64))
+        rule9-whole place n (store place l memory)
+        ∙ lowest-same (positiveAt place (store place l memory))
         (λ j. refuseIf (not (positive (entry l j j))) (refusal 9 j zero64)) n
         (λ j h.
         ap (λ x. refuseIf (not (positive x)) (refusal 9 j zero64))
@@ -146,11 +147,11 @@ module _ (n b m : ℕ) (order : n ≤ maxOrder) (low : 1 ≤ b) (high : b ≤ ma
     solver-checks rhs wl hr hw =
         let bij : Bijection place n = layout-bijection layout n b low in
         let mat : List Float = store place l memory in
-        sizes-pass (Solver layout) (inState (Factored layout) n b) (length mat) wl (rule5 m ∷ rule6 n m (length rhs) ∷ rule7 mat ∷ rule8 rhs ∷ rule9 place n mat ∷ [])
+        sizes-pass (Solver layout) (inState (Factored layout) n b) (length mat) wl (rule5 m ∷ rule6 n m (length rhs) ∷ rule7 mat ∷ rule8 rhs ∷ rule9 place 0 n mat ∷ [])
         (record { order = order; blockLow = low; blockHigh = high; state = factor-suits; matrix = length-store place n bij l memory ∙ whole; work = hw })
-        ∙ first-passes (rule5 m) (rule6 n m (length rhs) ∷ rule7 mat ∷ rule8 rhs ∷ rule9 place n mat ∷ []) (rule5-passes m count)
-        ∙ first-passes (rule6 n m (length rhs)) (rule7 mat ∷ rule8 rhs ∷ rule9 place n mat ∷ []) (rule6-passes n m (length rhs) hr)
-        ∙ first-passes (rule7 mat) (rule8 rhs ∷ rule9 place n mat ∷ []) (finite-rule 7 mat (stored-finite place n bij l s f memory whole))
+        ∙ first-passes (rule5 m) (rule6 n m (length rhs) ∷ rule7 mat ∷ rule8 rhs ∷ rule9 place 0 n mat ∷ []) (rule5-passes m count)
+        ∙ first-passes (rule6 n m (length rhs)) (rule7 mat ∷ rule8 rhs ∷ rule9 place 0 n mat ∷ []) (rule6-passes n m (length rhs) hr)
+        ∙ first-passes (rule7 mat) (rule8 rhs ∷ rule9 place 0 n mat ∷ []) (finite-rule 7 mat (stored-finite place n bij l s f memory whole))
         ∙ ap (λ r. firstRefusal (rule8 rhs ∷ r ∷ [])) diagonal-same
 
     solve-free :
@@ -198,7 +199,7 @@ all-finished : (layout : Layout) (n b : ℕ) (v : Verdict) → T (accepted v) �
 all-finished Packed n b v t = rw (is-true (accepted v) t) refl
 all-finished Blocked n b v t = rw (is-true (accepted v) t) refl
 
-rearrange-free :
+pub rearrange-free :
     (from to : Layout) (shape : Shape) (memory work : List Float) → Sizes (Rearranger from to) shape (length memory) (length work) →
     rearrange from to shape memory work
     ≡ record {
@@ -209,6 +210,14 @@ rearrange-free :
 unfolding rearrange
 rearrange-free from to shape memory work s = rw (rearranger-checks from to shape (length memory) (length work) s) refl
 
+-- the work of a rearranger or the blocked factor is enough for a solver
+pub work-enough : (n b : ℕ) → 1 ≤ b → n ≤ blockWork n b
+unfolding blockWork
+work-enough zero b low = omega arith
+work-enough (suc k) b low =
+    let one : 1 ≤ min (suc k) b = omega arith in
+    omega (arith, mul-le-mul-left (suc k) one)
+
 -- ---- both pipelines
 
 -- the result of a rearranger that succeeds
@@ -217,28 +226,17 @@ passed shape = record { code = 0; place = 0; value = zero64; exact = false; shap
 
 module _ (n b m : ℕ) (matrix rhs plainWork blockedWork : List Float) (v : T (all (fits binary64) matrix)) (s : Start n b m matrix rhs plainWork blockedWork) where
   -- the matrix, its verdict, what its factors return, and its factor where that is accepted
-  abbrev a : Triangle
+  abbrev pub a : Triangle
   a = load (placeOf Packed n b) (height n) n matrix
 
-  abbrev verdict : Verdict
+  abbrev pub verdict : Verdict
   verdict = columnsVerdict n a
 
   abbrev factorResult : Layout → CallResult
   factorResult layout = judgedResult (Factor layout) (inState (Raw layout) n b) (columnsJudged n a)
 
-  abbrev factorOf : Triangle
+  abbrev pub factorOf : Triangle
   factorOf = columns n a n
-
-  -- the work of a rearranger or the blocked factor is enough for a solver
-  work-enough : n ≤ blockWork n b
-  unfolding blockWork
-  work-enough = go n refl
-    where
-      go : (k : ℕ) → n ≡ k → n ≤ n * min n b
-      go zero e = omega arith
-      go (suc k) e =
-          let one : 1 ≤ min n b = omega (arith, s .blockLow) in
-          omega (arith, mul-le-mul-left n one)
 
   abbrev inBlocks : List Float
   inBlocks = moved Packed Blocked n b matrix
@@ -258,13 +256,13 @@ module _ (n b m : ℕ) (matrix rhs plainWork blockedWork : List Float) (v : T (a
       stored-finite (placeOf Blocked n b) n (layout-bijection Blocked n b (s .blockLow)) a (shaped-load (placeOf Packed n b) n matrix)
       (matrix-given .finites) matrix (s .matrixLength)
 
-  abbrev clearedWork : List Float
+  abbrev pub clearedWork : List Float
   clearedWork = clear (blockWork n b) blockedWork
 
-  cleared-length : length clearedWork ≡ length blockedWork
+  pub cleared-length : length clearedWork ≡ length blockedWork
   cleared-length = length-clear (blockWork n b) blockedWork (s .blockedWorkLength)
 
-  plain-factor :
+  pub plain-factor :
       factorize Packed (packedRaw n b) matrix plainWork
       ≡ record { result = factorResult Packed; matrix = store (placeOf Packed n b) (columns n a (finished Packed n b verdict)) matrix; work = clear n plainWork }
   plain-factor =
@@ -282,7 +280,7 @@ module _ (n b m : ℕ) (matrix rhs plainWork blockedWork : List Float) (v : T (a
       factor-free n b m (s .order) (s .blockLow) (s .blockHigh) (s .rhsCount) Blocked a inBlocks clearedWork moved-matrix moved-length moved-finite
       (omega (arith, cleared-length, s .blockedWorkLength))
 
-  there :
+  pub there :
       rearrange Packed Blocked (packedRaw n b) matrix blockedWork
       ≡ record { result = passed (inState (Raw Blocked) n b); matrix = inBlocks; work = clearedWork }
   unfolding stateAfter lookUp
@@ -313,14 +311,39 @@ module _ (n b m : ℕ) (matrix rhs plainWork blockedWork : List Float) (v : T (a
   -- ---- an accepted factor
 
   module _ (t : T (accepted verdict)) where
-    factor-shaped : Shaped n n factorOf
+    pub factor-shaped : Shaped n n factorOf
     factor-shaped = shaped-columns n a n (omega arith)
 
-    factor-finite : (i j : ℕ) → Entry n i j → T (finite (entry factorOf i j))
+    pub factor-finite : (i j : ℕ) → Entry n i j → T (finite (entry factorOf i j))
     unfolding columnsVerdict
     factor-finite i j e =
         columns-finite n a matrix-given n (omega arith) (lowest-accepted (judgeColumn n a) n t) i j e
         (omega (arith, e .lower, e .inside))
+
+    -- both factors, where they are accepted: the blocked one is the plain one rearranged
+    pub plain-accepted :
+        factorize Packed (packedRaw n b) matrix plainWork
+        ≡ record { result = factorResult Packed; matrix = store (placeOf Packed n b) factorOf matrix; work = clear n plainWork }
+    plain-accepted = rw (all-finished Packed n b verdict t) at plain-factor
+
+    pub blocked-accepted :
+        factorize Blocked (inState (Raw Blocked) n b) inBlocks clearedWork
+        ≡ record {
+          result = factorResult Blocked;
+          matrix = moved Packed Blocked n b (store (placeOf Packed n b) factorOf matrix);
+          work = clear (blockWork n b) clearedWork;
+        }
+    unfolding moved
+    blocked-accepted =
+        let plain : List Float = store (placeOf Packed n b) factorOf matrix in
+        let bij : Bijection (placeOf Blocked n b) n = layout-bijection Blocked n b (s .blockLow) in
+        let bij′ : Bijection (placeOf Packed n b) n = layout-bijection Packed n b (s .blockLow) in
+        let same : store (placeOf Blocked n b) factorOf inBlocks ≡ store (placeOf Blocked n b) (load (placeOf Packed n b) (height n) n plain) plain =
+        store-whole (placeOf Blocked n b) n bij factorOf inBlocks plain factor-shaped moved-length (length-store (placeOf Packed n b) n bij′ factorOf matrix ∙ s .matrixLength)
+        ∙ ap (λ l. store (placeOf Blocked n b) l plain) (sym (load-store (placeOf Packed n b) n bij′ factorOf matrix factor-shaped (omega (arith, s .matrixLength))))
+        in
+        rw (all-finished Blocked n b verdict t) at blocked-factor
+        ∙ ap (λ mem. record { result = factorResult Blocked; matrix = mem; work = clear (blockWork n b) clearedWork }) same
 
     plain-ended :
         plainPipeline n b m matrix rhs plainWork
@@ -360,7 +383,7 @@ module _ (n b m : ℕ) (matrix rhs plainWork blockedWork : List Float) (v : T (a
         let twice : length (clear (blockWork n b) clearedWork) ≡ length clearedWork =
         length-clear (blockWork n b) clearedWork (omega (arith, cleared-length, s .blockedWorkLength))
         in
-        free-work n m factorOf rhs (clear (blockWork n b) clearedWork) (omega (arith, twice, cleared-length, s .blockedWorkLength, work-enough))
+        free-work n m factorOf rhs (clear (blockWork n b) clearedWork) (omega (arith, twice, cleared-length, s .blockedWorkLength, work-enough n b (s .blockLow)))
         ∙ twice ∙ cleared-length
 
     -- the way back writes the factor in packed order
@@ -410,7 +433,7 @@ module _ (n b m : ℕ) (matrix rhs plainWork blockedWork : List Float) (v : T (a
           factor-state Blocked n a t,
           solve-free n b m (s .order) (s .blockLow) (s .blockHigh) (s .rhsCount) Blocked factorOf factor-shaped factor-finite inBlocks moved-length rhs
               (clear (blockWork n b) clearedWork) (s .rhsLength)
-              (omega (arith, length-clear (blockWork n b) clearedWork (omega (arith, cleared-length, s .blockedWorkLength)), cleared-length, s .blockedWorkLength, work-enough)),
+              (omega (arith, length-clear (blockWork n b) clearedWork (omega (arith, cleared-length, s .blockedWorkLength)), cleared-length, s .blockedWorkLength, work-enough n b (s .blockLow))),
           solver-keeps Blocked (solvedBlocks .verdict) (free-keeps n m factorOf rhs (clear (blockWork n b) clearedWork)),
           back,
           back-matrix,

@@ -1,11 +1,12 @@
 -- Laws of the checks before any work: what an accepted rule, and an accepted check, says of its arguments, and which codes the checks answer. Assumes nothing.
-use Prim.Native.Nat.{ℕ, zero, suc, _*_, _≤_, _<_}
+use Prim.Native.Nat.{ℕ, zero, suc, _+_, _-_, _*_, _≤_, _<_}
+use native.Mathlib.Nat.{zero-add, sub-zero}
 use native.Mathlib.Omega.{arith}
-use mathlib.Core.Path.{_≡_, refl, sym, ap, _∙_}
+use mathlib.Core.Path.{_≡_, refl, sym, ap, _∙_, subst}
 use mathlib.Core.Bool.{Bool, true, false, not, _&&_, _||_}
 use mathlib.Core.List.{List, [], _∷_, _++_}
-use borrow.Author.Tests.{ne-eqb}
-use lib.Dec.{T, ltb, eqb, nltb→le, eqb→eq}
+use borrow.Author.Tests.{le-ltb, ne-eqb}
+use lib.Dec.{T, ltb, eqb, ltb→lt, nltb→le, eqb→eq}
 use lib.ListN.{length, getD}
 use lib.Ieee.{Float, nan}
 use Rattle.binary64.specs.Kinds.{finite, positive, zero64}
@@ -20,10 +21,10 @@ use Rattle.calls.specs.Sequences.{all}
 use Rattle.calls.specs.Triangles.{Triangle, placeOf}
 use Rattle.calls.specs.Arithmetic.{forward}
 use Rattle.calls.specs.States.{next, suits}
-use Rattle.calls.specs.Refusals.{success, accepted, refusal, refuseIf, firstRefusal, byBlocks, neededWork, rule1, rule2, rule15, rule3, rule4, rule5, rule6, rule7, rule8, finiteRule, rule9, rule12}
+use Rattle.calls.specs.Refusals.{success, accepted, refusal, refuseIf, firstRefusal, lowestRefusal, byBlocks, neededWork, rule1, rule2, rule15, rule3, rule4, rule14, rule5, rule6, rule7, rule8, finiteRule, rule9, rule12}
 use Rattle.calls.specs.Calls.{DoneAs, spends, resultOf, rearrangerChecks, factorChecks, solverChecks, factorize, rhsPart, solution, rhsVerdict}
 use Rattle.calls.proofs.Sequences.{all-of}
-use Rattle.calls.proofs.Refusals.{not-not, refuse-not, not-refused, first-accepted, lowest-accepted, refuse-holds, none-holds, first-holds, lowest-holds}
+use Rattle.calls.proofs.Refusals.{not-not, is-not-not, refuse-not, not-refused, first-accepted, lowest-success, lowest-same, lowest-accepted, refuse-holds, none-holds, first-holds, lowest-holds}
 use Rattle.calls.proofs.Checks.{sizeRules}
 use Rattle.calls.proofs.Judging.{first-success, first-alone, lowest-all}
 
@@ -64,6 +65,14 @@ pub rule4-accepted : (call : Call) (n b l : ℕ) → T (accepted (rule4 call n b
 unfolding rule4
 rule4-accepted call n b l h = nltb→le l (neededWork call n b) (not-refused (ltb l (neededWork call n b)) 3 0 zero64 h)
 
+pub rule14-accepted : (n k : ℕ) → T (accepted (rule14 n k)) → k < n
+unfolding rule14
+rule14-accepted n k h = ltb→lt k n (not-not (ltb k n) (not-refused (not (ltb k n)) 13 0 zero64 h))
+
+pub rule14-refused : (n k : ℕ) → n ≤ k → rule14 n k ≡ refusal 14 0 zero64
+unfolding rule14
+rule14-refused n k h = ap (λ c. refuseIf (not c) (refusal 14 0 zero64)) (le-ltb k n h)
+
 pub rule5-accepted : (m : ℕ) → T (accepted (rule5 m)) → m ≤ maxRhs
 unfolding rule5
 rule5-accepted m h = nltb→le maxRhs m (not-refused (ltb maxRhs m) 4 0 zero64 h)
@@ -75,6 +84,13 @@ rule6-accepted n m l h = eqb→eq l (n * m) (not-not (eqb l (n * m)) (not-refuse
 -- rules 7 and 8 at one position
 abbrev pub finiteAt : ℕ → List Float → ℕ → Verdict
 finiteAt code memory p = refuseIf (not (finite (getD memory p nan))) (refusal code p zero64)
+
+pub refused-at : (m : List Float) (p : ℕ) → accepted (finiteAt 7 m p) ≡ false → finiteAt 7 m p ≡ refusal 7 p zero64
+refused-at m p = go (finite (getD m p nan))
+  where
+    go : (b : Bool) → accepted (refuseIf (not b) (refusal 7 p zero64)) ≡ false → refuseIf (not b) (refusal 7 p zero64) ≡ refusal 7 p zero64
+    go true e = absurd (subst (λ (b : Bool). T b) e tt)
+    go false e = refl
 
 pub finite-success : (code : ℕ) (memory : List Float) → T (accepted (finiteRule (suc code) memory)) → finiteRule (suc code) memory ≡ success
 unfolding finiteRule
@@ -93,19 +109,37 @@ finite-alone code memory = first-alone (finiteRule (suc code) memory) (finite-su
 abbrev pub positiveAt : (ℕ → ℕ → ℕ) → List Float → ℕ → Verdict
 positiveAt place matrix j = refuseIf (not (positive (getD matrix (place j j) nan))) (refusal 9 j zero64)
 
-module _ (place : ℕ → ℕ → ℕ) (n : ℕ) (matrix : List Float) where
-  pub rule9-success : T (accepted (rule9 place n matrix)) → rule9 place n matrix ≡ success
+module _ (place : ℕ → ℕ → ℕ) (k n : ℕ) (matrix : List Float) where
+  pub rule9-success : T (accepted (rule9 place k n matrix)) → rule9 place k n matrix ≡ success
   unfolding rule9
-  rule9-success = lowest-all (positiveAt place matrix) (λ j. refuse-accepted (not (positive (getD matrix (place j j) nan))) 8 j) n
+  rule9-success =
+      lowest-all (λ c. positiveAt place matrix (k + c)) (λ c. refuse-accepted (not (positive (getD matrix (place (k + c) (k + c)) nan))) 8 (k + c)) (n - k)
 
-  pub rule9-alone : firstRefusal (rule9 place n matrix ∷ []) ≡ rule9 place n matrix
-  rule9-alone = first-alone (rule9 place n matrix) rule9-success
+  pub rule9-alone : firstRefusal (rule9 place k n matrix ∷ []) ≡ rule9 place k n matrix
+  rule9-alone = first-alone (rule9 place k n matrix) rule9-success
 
-  pub rule9-accepted : T (accepted (rule9 place n matrix)) → (j : ℕ) → j < n → T (positive (getD matrix (place j j) nan))
+  pub rule9-accepted : T (accepted (rule9 place k n matrix)) → (j : ℕ) → k ≤ j → j < n → T (positive (getD matrix (place j j) nan))
   unfolding rule9
-  rule9-accepted h j p =
+  rule9-accepted h j low p =
+      let back : k + (j - k) ≡ j = omega arith in
       not-not (positive (getD matrix (place j j) nan))
-      (not-refused (not (positive (getD matrix (place j j) nan))) 8 j zero64 (lowest-accepted (positiveAt place matrix) n h j p))
+      (not-refused (not (positive (getD matrix (place j j) nan))) 8 j zero64
+      (rw back at (lowest-accepted (λ c. positiveAt place matrix (k + c)) (n - k) h (j - k) (omega arith))))
+
+  -- it passes where each of these values is greater than zero
+  pub rule9-passes : ((j : ℕ) → k ≤ j → j < n → T (positive (getD matrix (place j j) nan))) → rule9 place k n matrix ≡ success
+  unfolding rule9
+  rule9-passes h =
+      lowest-success (λ c. positiveAt place matrix (k + c)) (n - k)
+      (λ c p.
+      refuse-not (not (positive (getD matrix (place (k + c) (k + c)) nan))) (refusal 9 (k + c) zero64)
+      (is-not-not (positive (getD matrix (place (k + c) (k + c)) nan)) (h (k + c) (omega arith) (omega arith))))
+
+-- from column 0 on
+pub rule9-whole : (place : ℕ → ℕ → ℕ) (n : ℕ) (matrix : List Float) → rule9 place 0 n matrix ≡ lowestRefusal (positiveAt place matrix) n
+unfolding rule9
+rule9-whole place n matrix =
+    rw (sub-zero n) (lowest-same (λ c. positiveAt place matrix (0 + c)) (positiveAt place matrix) n (λ c h. ap (positiveAt place matrix) (zero-add c)))
 
 -- ---- what an accepted check says
 
@@ -204,10 +238,11 @@ module _ (P : Verdict → Type 0) (none : P success) (low : (code place : ℕ) �
   finite-holds code h memory =
       lowest-holds P none (finiteAt code memory) (λ p. refused-low (not (finite (getD memory p nan))) code p h) (length memory)
 
-  pub rule9-holds : (place : ℕ → ℕ → ℕ) (n : ℕ) (matrix : List Float) → P (rule9 place n matrix)
+  pub rule9-holds : (place : ℕ → ℕ → ℕ) (k n : ℕ) (matrix : List Float) → P (rule9 place k n matrix)
   unfolding rule9
-  rule9-holds place n matrix =
-      lowest-holds P none (positiveAt place matrix) (λ j. refused-low (not (positive (getD matrix (place j j) nan))) 9 j (omega arith)) n
+  rule9-holds place k n matrix =
+      lowest-holds P none (λ c. positiveAt place matrix (k + c))
+      (λ c. refused-low (not (positive (getD matrix (place (k + c) (k + c)) nan))) 9 (k + c) (omega arith)) (n - k)
 
 -- ---- no check answers a column's code, nor does a right-hand side
 
@@ -218,7 +253,7 @@ Keeps v = spends v ≡ false
 pub low-keeps : (code place : ℕ) → code < 10 → Keeps (refusal code place zero64)
 low-keeps code place h = rw (ne-eqb code 10 (λ e. omega arith), ne-eqb code 11 (λ e. omega arith), ne-eqb code 16 (λ e. omega arith)) refl
 
-sizes-keep : (call : Call) (shape : Shape) (ml wl : ℕ) (rest : List Verdict) → Keeps (firstRefusal rest) → Keeps (firstRefusal (sizeRules call shape ml wl ++ rest))
+pub sizes-keep : (call : Call) (shape : Shape) (ml wl : ℕ) (rest : List Verdict) → Keeps (firstRefusal rest) → Keeps (firstRefusal (sizeRules call shape ml wl ++ rest))
 unfolding rule15
 sizes-keep call shape ml wl rest h =
     first-holds Keeps refl _ _ (rule1-holds Keeps refl low-keeps (shape .order))
@@ -242,12 +277,12 @@ unfolding solverChecks
 solver-checks-keep layout shape m matrix rhs wl =
     let n = shape .order in
     let place = placeOf layout n (shape .block) in
-    sizes-keep (Solver layout) shape (length matrix) wl (rule5 m ∷ rule6 n m (length rhs) ∷ rule7 matrix ∷ rule8 rhs ∷ rule9 place n matrix ∷ [])
+    sizes-keep (Solver layout) shape (length matrix) wl (rule5 m ∷ rule6 n m (length rhs) ∷ rule7 matrix ∷ rule8 rhs ∷ rule9 place 0 n matrix ∷ [])
     (first-holds Keeps refl _ _ (rule5-holds Keeps refl low-keeps m)
     (first-holds Keeps refl _ _ (rule6-holds Keeps refl low-keeps n m (length rhs))
     (first-holds Keeps refl _ _ (finite-holds Keeps refl low-keeps 7 (omega arith) matrix)
     (first-holds Keeps refl _ _ (finite-holds Keeps refl low-keeps 8 (omega arith) rhs)
-    (first-holds Keeps refl _ _ (rule9-holds Keeps refl low-keeps place n matrix) (none-holds Keeps refl))))))
+    (first-holds Keeps refl _ _ (rule9-holds Keeps refl low-keeps place 0 n matrix) (none-holds Keeps refl))))))
 
 -- what holds of success and of a refusal by 12 holds of the right-hand sides' verdict
 pub rhs-holds : (P : Verdict → Type 0) → P success → ((q : ℕ) → P (refusal 12 q zero64)) → (n m : ℕ) (l : Triangle) (rhs : List Float) → P (rhsVerdict n m l rhs)
@@ -274,19 +309,19 @@ module _ (layout : Layout) (shape : Shape) (m : ℕ) (matrix rhs : List Float) (
   solver-accepted =
       let n = shape .order in
       let place = placeOf layout n (shape .block) in
-      let s = sizes-accepted (Solver layout) shape (length matrix) wl (rule5 m ∷ rule6 n m (length rhs) ∷ rule7 matrix ∷ rule8 rhs ∷ rule9 place n matrix ∷ []) h in
-      let p5 = first-accepted (rule5 m) (rule6 n m (length rhs) ∷ rule7 matrix ∷ rule8 rhs ∷ rule9 place n matrix ∷ []) (s .1) in
-      let p6 = first-accepted (rule6 n m (length rhs)) (rule7 matrix ∷ rule8 rhs ∷ rule9 place n matrix ∷ []) (p5 .1) in
-      let p7 = first-accepted (rule7 matrix) (rule8 rhs ∷ rule9 place n matrix ∷ []) (p6 .1) in
-      let p8 = first-accepted (rule8 rhs) (rule9 place n matrix ∷ []) (p7 .1) in
-      let p9 = first-accepted (rule9 place n matrix) [] (p8 .1) in
+      let s = sizes-accepted (Solver layout) shape (length matrix) wl (rule5 m ∷ rule6 n m (length rhs) ∷ rule7 matrix ∷ rule8 rhs ∷ rule9 place 0 n matrix ∷ []) h in
+      let p5 = first-accepted (rule5 m) (rule6 n m (length rhs) ∷ rule7 matrix ∷ rule8 rhs ∷ rule9 place 0 n matrix ∷ []) (s .1) in
+      let p6 = first-accepted (rule6 n m (length rhs)) (rule7 matrix ∷ rule8 rhs ∷ rule9 place 0 n matrix ∷ []) (p5 .1) in
+      let p7 = first-accepted (rule7 matrix) (rule8 rhs ∷ rule9 place 0 n matrix ∷ []) (p6 .1) in
+      let p8 = first-accepted (rule8 rhs) (rule9 place 0 n matrix ∷ []) (p7 .1) in
+      let p9 = first-accepted (rule9 place 0 n matrix) [] (p8 .1) in
       record {
         sizes = s .0;
         rhsCount = rule5-accepted m (p5 .0);
         rhsLength = rule6-accepted n m (length rhs) (p6 .0);
         matrixFinite = finite-accepted 6 matrix (p7 .0);
         rhsFinite = finite-accepted 7 rhs (p8 .0);
-        diagonal = rule9-accepted place n matrix (p9 .0);
+        diagonal = λ j. rule9-accepted place 0 n matrix (p9 .0) j (omega arith);
       }
 
   pub solver-success : solverChecks layout shape m matrix rhs wl ≡ success

@@ -1,10 +1,10 @@
--- When the rules before any work pass: rules 1 to 6 by numbers, rule 15 by the state, rule 7 on stored finite columns. Assumes nothing.
-use Prim.Native.Nat.{ℕ, _*_, _≤_}
+-- When the rules before any work pass: rules 1 to 6 and 14 by numbers, rule 15 by the state, rule 7 on stored finite columns. Assumes nothing.
+use Prim.Native.Nat.{ℕ, _*_, _≤_, _<_}
 use native.Mathlib.Omega.{arith}
 use mathlib.Core.Path.{_≡_, refl, ap, _∙_}
 use mathlib.Core.Bool.{Bool, true, false, not, _&&_, _||_}
 use mathlib.Core.List.{List, [], _∷_, _++_}
-use borrow.Author.Tests.{le-ltb, eq-eqb, ne-eqb}
+use borrow.Author.Tests.{lt-ltb, le-ltb, eq-eqb, ne-eqb}
 use lib.Dec.{T}
 use lib.ListN.{length, drop, replicate, length-append, length-replicate, length-drop}
 use lib.Ieee.{Float}
@@ -18,7 +18,7 @@ use Rattle.calls.specs.declared.Layout.{Layout}
 use Rattle.calls.specs.declared.Call.{Call}
 use Rattle.calls.specs.declared.Call.the-variants.{Rearranger, Factor}
 use Rattle.calls.specs.States.{next, suits}
-use Rattle.calls.specs.Refusals.{neededWork, byBlocks, success, refusal, refuseIf, firstRefusal, rule1, rule2, rule15, rule3, rule4, rule5, rule6, rule7}
+use Rattle.calls.specs.Refusals.{neededWork, byBlocks, success, refusal, refuseIf, firstRefusal, rule1, rule2, rule15, rule3, rule4, rule14, rule5, rule6, rule7}
 use Rattle.calls.specs.Calls.{clear, rearrangerChecks, factorChecks}
 use Rattle.calls.proofs.Refusals.{is-not-not, refuse-not, first-passes, finite-rule}
 
@@ -46,6 +46,10 @@ rule3-passes n l e = ap (λ c. refuseIf (not c) (refusal 3 0 zero64)) (eq-eqb l 
 pub rule4-passes : (call : Call) (n b l : ℕ) → neededWork call n b ≤ l → rule4 call n b l ≡ success
 unfolding rule4
 rule4-passes call n b l h = ap (λ c. refuseIf c (refusal 4 0 zero64)) (le-ltb l (neededWork call n b) h)
+
+pub rule14-passes : (n k : ℕ) → k < n → rule14 n k ≡ success
+unfolding rule14
+rule14-passes n k h = ap (λ c. refuseIf (not c) (refusal 14 0 zero64)) (lt-ltb k n h)
 
 pub rule5-passes : (m : ℕ) → m ≤ maxRhs → rule5 m ≡ success
 unfolding rule5

@@ -1,7 +1,7 @@
 -- The columns of specs/Arithmetic.antt's `cholesky`: their lengths, their entries by document 01's formulas, and that the entries of accepted
 -- columns are finite. Assumes nothing.
 use Prim.Native.Nat.{ℕ, zero, suc, _+_, _-_, _≤_, _<_}
-use native.Mathlib.Nat.{sub-self}
+use native.Mathlib.Nat.{sub-self, add-zero, add-suc}
 use native.Mathlib.Omega.{arith}
 use native.Mathlib.Decide.{decLt}
 use mathlib.Core.Path.{_≡_, refl, sym, ap, ap₂, _∙_, subst}
@@ -84,6 +84,14 @@ products-same x x′ y y′ zero t p q = refl
 products-same x x′ y y′ (suc k) t p q =
     ap₂ (sub binary64) (products-same x x′ y y′ k t (λ i h. p i (omega arith)) (λ i h. q i (omega arith)))
     (ap₂ (mul binary64) (p k (omega arith)) (q k (omega arith)))
+
+-- the products from k on follow the first k
+pub minus-add :
+    (x y : ℕ → Float) (k c : ℕ) (t : Float) →
+    minusProducts x y (k + c) t ≡ minusProducts (λ q. x (k + q)) (λ q. y (k + q)) c (minusProducts x y k t)
+unfolding minusProducts
+minus-add x y k zero t = rw add-zero
+minus-add x y k (suc c) t = rw add-suc (ap (λ u. sub binary64 u (mul binary64 (x (k + c)) (y (k + c)))) (minus-add x y k c t))
 
 -- a finite value less squares of finite values stays below +infinity
 pub squares-below :

@@ -21,10 +21,11 @@ use Rattle.calls.specs.declared.Layout.the-variants.{Packed, Blocked}
 use Rattle.calls.specs.Sequences.{iterate, grow, tabulate, all, every}
 use Rattle.calls.specs.Triangles.{entry, height, placeOf, load, storeColumn, store}
 use Rattle.calls.specs.Arithmetic.{minusProducts, pivot, quotient, below, factorColumn, cholesky, forward, backwardRows, backward}
-use Rattle.calls.specs.Refusals.{firstRefusal, lowestRefusal, rule1, rule2, rule15, rule3, rule4, rule5, rule6, finiteRule, rule9, rule11, weak, rule16, columnRules, columnVerdict, columnExact, rule12}
+use Rattle.calls.specs.Refusals.{firstRefusal, lowestRefusal, rule1, rule2, rule15, rule3, rule4, rule14, rule5, rule6, finiteRule, rule9, rule11, weak, rule16, columnRules, columnVerdict, columnExact, rule12}
 use Rattle.calls.specs.States.{stateNumber, lookUp}
 use Rattle.calls.specs.Calls.{Done, stateAfter, answer, clear, rearrangerChecks, moved, rearrange, factorChecks, columnsVerdict, columnsExact, factored, factorize, solverChecks, rhsPart, solution, rhsVerdict, solutions, solved, solve}
 use Rattle.calls.specs.Pipelines.{Ended, plainPipeline, blockedPipeline}
+use Rattle.calls.specs.Variances.{unitRhs, columnsFrom, varianceChecks, varianceVerdict, variance}
 use Rattle.calls.proofs.FactorsBy.{factorizeBy}
 use Rattle.calls.proofs.Stepwise.{shapeIn, force, plainStepwise, plain-stepwise, blockedStepwise, blocked-stepwise}
 use Rattle.calls.proofs.WeakFirst.{overflowFirst}
@@ -75,6 +76,9 @@ minusFive = 0xC014_0000_0000_0000
 
 abbrev infinity : ℕ
 infinity = 0x7FF0_0000_0000_0000
+
+abbrev notANumber : ℕ
+notANumber = 0x7FF8_0000_0000_0000
 
 abbrev minusInfinity : ℕ
 minusInfinity = 0xFFF0_0000_0000_0000
@@ -225,6 +229,20 @@ unfolding memory holds gives sameShape
 solveRefused layout n b m l rhs work answer =
     let d = solve layout (factor layout n b) m (memory l) (memory rhs) (memory work) in
     gives (d .result) answer && sameShape (d .result .shape) (factor layout n b) && holds (d .rhs) rhs && holds (d .work) work
+
+-- layout n b k l; the answer of a variance call, and the work memory cleared
+varies : Layout → ℕ → ℕ → ℕ → List ℕ → Answer → Bool
+unfolding memory holds gives sameShape used cleared
+varies layout n b k l answer =
+    let d = variance layout (factor layout n b) k (memory l) (used n) in
+    gives (d .result) answer && sameShape (d .result .shape) (factor layout n b) && holds (d .work) (cleared n)
+
+-- refused by a check, with work memory of any length
+varianceRefused : Layout → ℕ → ℕ → ℕ → List ℕ → List ℕ → Answer → Bool
+unfolding memory holds gives sameShape
+varianceRefused layout n b k l work answer =
+    let d = variance layout (factor layout n b) k (memory l) (memory work) in
+    gives (d .result) answer && sameShape (d .result .shape) (factor layout n b) && holds (d .work) work
 
 -- a call of a state, with the states from one on: the code that each gives, and the state returned
 statesAre : (ℕ → CallResult) → ℕ → List (ℕ × ℕ) → Bool
@@ -580,9 +598,90 @@ pipelineRows plain blocked =
     ∷ refuses (plain 1 1 1 (memory (four ∷ two ∷ [])) (memory (one ∷ [])) (used 1)) 1 1 (3, 0, 0, false) (four ∷ two ∷ []) (one ∷ []) (infinity ∷ infinity ∷ [])
     ∷ []
 
+-- ---- document 02, (a): the variance of unknown k
+
+-- l b: every unknown of document 01's factor, in blocked order
+eachUnknown : List ℕ → ℕ → Bool
+unfolding varies
+eachUnknown l b =
+    varies Blocked 3 b 0 l (0, 0, 0x3FEF_1C71_C71C_71C6, false) && varies Blocked 3 b 1 l (0, 0, 0x3FE1_C71C_71C7_1C71, false)
+    && varies Blocked 3 b 2 l (0, 0, one, false)
+
+pub varianceRows : List Bool
+unfolding varies varianceRefused eachUnknown solves statesAre memory
+varianceRows =
+    -- document 01's factor with each k, plain, whatever b is, and b 1, 2, 3 and 200
+    varies Packed 3 0 0 (two ∷ one ∷ minusOne ∷ three ∷ two ∷ one ∷ []) (0, 0, 0x3FEF_1C71_C71C_71C6, false)
+    ∷ varies Packed 3 2 1 (two ∷ one ∷ minusOne ∷ three ∷ two ∷ one ∷ []) (0, 0, 0x3FE1_C71C_71C7_1C71, false)
+    ∷ varies Packed 3 201 2 (two ∷ one ∷ minusOne ∷ three ∷ two ∷ one ∷ []) (0, 0, one, false)
+    ∷ eachUnknown (two ∷ one ∷ minusOne ∷ three ∷ two ∷ one ∷ []) 1
+    ∷ eachUnknown (two ∷ one ∷ three ∷ minusOne ∷ two ∷ one ∷ []) 2
+    ∷ eachUnknown (two ∷ one ∷ three ∷ minusOne ∷ two ∷ one ∷ []) 3
+    ∷ eachUnknown (two ∷ one ∷ three ∷ minusOne ∷ two ∷ one ∷ []) 200
+    -- n 1: 1 / 2 / 2
+    ∷ varies Packed 1 1 0 (two ∷ []) (0, 0, 0x3FD0_0000_0000_0000, false)
+    ∷ varies Blocked 1 1 0 (two ∷ []) (0, 0, 0x3FD0_0000_0000_0000, false)
+    -- 14: k is not below n, so always at n 0; after 4 and before 7 and 9
+    ∷ varianceRefused Packed 0 1 0 [] [] (14, 0, 0, false)
+    ∷ varianceRefused Blocked 0 1 0 [] [] (14, 0, 0, false)
+    ∷ varianceRefused Packed 1 1 1 (two ∷ []) (infinity ∷ []) (14, 0, 0, false)
+    ∷ varianceRefused Blocked 1 1 1 (two ∷ []) (infinity ∷ []) (14, 0, 0, false)
+    ∷ varianceRefused Packed 1 1 7 (infinity ∷ []) (infinity ∷ []) (14, 0, 0, false)
+    ∷ varianceRefused Packed 1 1 1 (0 ∷ []) (infinity ∷ []) (14, 0, 0, false)
+    ∷ varianceRefused Packed 1 1 1 (two ∷ []) [] (4, 0, 0, false)
+    ∷ varianceRefused Blocked 1 1 1 (two ∷ []) [] (4, 0, 0, false)
+    -- 1 to 4, in their order; b is judged by the blocked call alone
+    ∷ varianceRefused Blocked 4001 0 0 [] [] (1, 0, 0, false)
+    ∷ varianceRefused Blocked 1 0 0 [] [] (2, 0, 0, false)
+    ∷ varianceRefused Blocked 1 201 0 [] [] (2, 0, 0, false)
+    ∷ varianceRefused Packed 1 201 0 [] [] (3, 0, 0, false)
+    ∷ varianceRefused Blocked 2 1 0 (two ∷ []) [] (3, 0, 0, false)
+    ∷ varianceRefused Blocked 2 2 0 (two ∷ one ∷ three ∷ []) (infinity ∷ []) (4, 0, 0, false)
+    ∷ varianceRefused Packed 2 2 1 (two ∷ one ∷ three ∷ []) (infinity ∷ []) (4, 0, 0, false)
+    -- every state and one past the last: a factor in its own format
+    ∷ statesAre (λ s. variance Packed (shapeIn s 1 1) 0 (memory (two ∷ [])) (memory (one ∷ [])) .result) 0 ((15, 0) ∷ (15, 1) ∷ (0, 2) ∷ (15, 3) ∷ (15, 4) ∷ (15, 5) ∷ [])
+    ∷ statesAre (λ s. variance Blocked (shapeIn s 1 1) 0 (memory (two ∷ [])) (memory (one ∷ [])) .result) 0 ((15, 0) ∷ (15, 1) ∷ (15, 2) ∷ (0, 3) ∷ (15, 4) ∷ (15, 5) ∷ [])
+    -- 15 after 2 and before 3
+    ∷ statesAre (λ s. variance Blocked (shapeIn s 1 0) 0 (memory (two ∷ [])) (memory (one ∷ [])) .result) 0 ((2, 0) ∷ (2, 1) ∷ (2, 2) ∷ (2, 3) ∷ [])
+    ∷ statesAre (λ s. variance Packed (shapeIn s 1 1) 0 [] [] .result) 0 ((15, 0) ∷ (15, 1) ∷ (3, 2) ∷ (15, 3) ∷ [])
+    -- What is before k is not seen: a NaN, an infinity, a diagonal value that is not greater than zero.
+    ∷ varies Packed 3 1 1 (0 ∷ notANumber ∷ infinity ∷ three ∷ two ∷ one ∷ []) (0, 0, 0x3FE1_C71C_71C7_1C71, false)
+    ∷ varies Blocked 3 1 1 (0 ∷ notANumber ∷ infinity ∷ three ∷ two ∷ one ∷ []) (0, 0, 0x3FE1_C71C_71C7_1C71, false)
+    ∷ varies Blocked 3 2 1 (minusOne ∷ infinity ∷ three ∷ notANumber ∷ two ∷ one ∷ []) (0, 0, 0x3FE1_C71C_71C7_1C71, false)
+    ∷ varies Blocked 3 3 1 (notANumber ∷ infinity ∷ three ∷ notANumber ∷ two ∷ one ∷ []) (0, 0, 0x3FE1_C71C_71C7_1C71, false)
+    ∷ varies Packed 3 1 2 (0 ∷ infinity ∷ infinity ∷ 0 ∷ infinity ∷ one ∷ []) (0, 0, one, false)
+    ∷ varies Blocked 3 2 2 (0 ∷ infinity ∷ 0 ∷ infinity ∷ infinity ∷ one ∷ []) (0, 0, one, false)
+    -- From k on it is: 7 at the lowest position in memory, which need not be that of the lowest column; before 9
+    ∷ varianceRefused Packed 3 1 1 (infinity ∷ one ∷ minusOne ∷ three ∷ notANumber ∷ infinity ∷ []) (replicate 3 one) (7, 4, 0, false)
+    ∷ varianceRefused Blocked 3 2 1 (infinity ∷ one ∷ three ∷ minusOne ∷ two ∷ infinity ∷ []) (replicate 3 one) (7, 5, 0, false)
+    ∷ varianceRefused Blocked 3 3 1 (infinity ∷ one ∷ notANumber ∷ minusOne ∷ two ∷ infinity ∷ []) (replicate 3 one) (7, 2, 0, false)
+    ∷ varianceRefused Packed 4 4 1 (one ∷ one ∷ one ∷ one ∷ one ∷ one ∷ infinity ∷ infinity ∷ one ∷ one ∷ []) (replicate 4 one) (7, 6, 0, false)
+    ∷ varianceRefused Blocked 4 4 1 (one ∷ one ∷ one ∷ one ∷ one ∷ infinity ∷ one ∷ infinity ∷ one ∷ one ∷ []) (replicate 4 one) (7, 5, 0, false)
+    ∷ varianceRefused Packed 3 1 1 (two ∷ one ∷ minusOne ∷ 0 ∷ two ∷ infinity ∷ []) (replicate 3 one) (7, 5, 0, false)
+    -- 9 at the lowest column from k on, by its number in the whole matrix
+    ∷ varianceRefused Packed 3 1 1 (0 ∷ one ∷ minusOne ∷ minusZero ∷ two ∷ 0 ∷ []) (replicate 3 one) (9, 1, 0, false)
+    ∷ varianceRefused Blocked 3 2 1 (0 ∷ one ∷ three ∷ minusOne ∷ two ∷ minusOne ∷ []) (replicate 3 one) (9, 2, 0, false)
+    ∷ varianceRefused Blocked 3 3 2 (0 ∷ one ∷ 0 ∷ minusOne ∷ two ∷ 0 ∷ []) (replicate 3 one) (9, 2, 0, false)
+    -- 12, place 0 whatever k is, by a y and by an x; the work memory is cleared
+    ∷ varies Packed 1 1 0 (1 ∷ []) (12, 0, 0, false)
+    ∷ varies Blocked 1 1 0 (twoToMinus1000 ∷ []) (12, 0, 0, false)
+    ∷ varies Packed 2 1 1 (one ∷ one ∷ 1 ∷ []) (12, 0, 0, false)
+    ∷ varies Blocked 2 2 1 (one ∷ one ∷ twoToMinus1000 ∷ []) (12, 0, 0, false)
+    ∷ varies Packed 2 1 0 (one ∷ twoTo600 ∷ twoToMinus500 ∷ []) (12, 0, 0, false)
+    ∷ varies Packed 3 1 0 (1 ∷ 0 ∷ 0 ∷ one ∷ 0 ∷ one ∷ []) (12, 0, 0, false)
+    -- An x before k is not formed: the solver refuses this right-hand side, the variance is 1.
+    ∷ solves Packed 2 1 1 (twoToMinus500 ∷ twoTo600 ∷ one ∷ []) (0 ∷ one ∷ []) (12, 0, 0, false) (0 ∷ one ∷ [])
+    ∷ varies Packed 2 1 1 (twoToMinus500 ∷ twoTo600 ∷ one ∷ []) (0, 0, one, false)
+    ∷ varies Blocked 2 2 1 (twoToMinus500 ∷ twoTo600 ∷ one ∷ []) (0, 0, one, false)
+    ∷ []
+
 rows-hold : T (all (λ r. r) rows)
 unfolding rows rearrange rearrangerChecks moved factorize factorChecks factored columnsVerdict columnsExact solve solverChecks solved rhsVerdict rhsPart solution solutions clear firstRefusal lowestRefusal stateAfter lookUp rule1 rule2 rule15 rule3 rule4 rule5 rule6 finiteRule rule9 rule11 weak rule16 columnRules columnVerdict columnExact rule12 minusProducts pivot quotient below factorColumn cholesky forward backwardRows backward iterate grow tabulate all every entry height placeOf load storeColumn store kind finite positive root squaresTo exact judged triangle packedPlace blockedPlace blockWork toBits ofBits mul sub div lt
 rows-hold = tt
+
+variances-hold : T (all (λ r. r) varianceRows)
+unfolding varianceRows variance varianceChecks varianceVerdict columnsFrom unitRhs solve solverChecks solved rhsVerdict rhsPart solution solutions clear firstRefusal lowestRefusal stateAfter lookUp rule1 rule2 rule15 rule3 rule4 rule14 rule5 rule6 finiteRule rule9 rule12 minusProducts forward backwardRows backward iterate grow tabulate all every entry height placeOf load storeColumn store kind finite positive triangle packedPlace blockedPlace blockWork toBits ofBits mul sub div lt
+variances-hold = tt
 
 stepwise-hold : T (all (λ r. r) (pipelineRows plainStepwise blockedStepwise))
 unfolding pipelineRows plainStepwise blockedStepwise force rearrange rearrangerChecks moved factorize factorChecks factored columnsVerdict columnsExact solve solverChecks solved rhsVerdict rhsPart solution solutions clear firstRefusal lowestRefusal stateAfter lookUp rule1 rule2 rule15 rule3 rule4 rule5 rule6 finiteRule rule9 rule11 weak rule16 columnRules columnVerdict columnExact rule12 minusProducts pivot quotient below factorColumn cholesky forward backwardRows backward iterate grow tabulate all every entry height placeOf load storeColumn store kind finite positive root squaresTo exact judged triangle packedPlace blockedPlace blockWork toBits ofBits mul sub div lt
@@ -594,9 +693,10 @@ plain-is = fun-ext (λ n. fun-ext (λ b. fun-ext (λ m. fun-ext (λ matrix. fun-
 blocked-is : blockedStepwise ≡ blockedPipeline
 blocked-is = fun-ext (λ n. fun-ext (λ b. fun-ext (λ m. fun-ext (λ matrix. fun-ext (λ rhs. fun-ext (λ work. blocked-stepwise n b m matrix rhs work))))))
 
-pub examples-hold : T (all (λ r. r) rows) × T (all (λ r. r) (pipelineRows plainPipeline blockedPipeline))
+pub examples-hold : T (all (λ r. r) rows) × T (all (λ r. r) varianceRows) × T (all (λ r. r) (pipelineRows plainPipeline blockedPipeline))
 examples-hold = (
   rows-hold,
+  variances-hold,
   subst (λ (p : Pipeline). T (all (λ r. r) (pipelineRows p blockedPipeline))) plain-is
       (subst (λ (p : Pipeline). T (all (λ r. r) (pipelineRows plainStepwise p))) blocked-is stepwise-hold),
 )

@@ -4,7 +4,7 @@ use native.Mathlib.Nat.{add-zero, add-suc}
 use native.Mathlib.Numerals.{add-one}
 use native.Mathlib.Omega.{arith}
 use native.Mathlib.Decide.{decLt}
-use mathlib.Core.Path.{_≡_, refl, sym, ap, _∙_}
+use mathlib.Core.Path.{_≡_, refl, sym, ap, _∙_, subst}
 use mathlib.Core.Bool.{Bool, true, false, cond, not, _&&_}
 use mathlib.Core.List.{List, [], _∷_, _++_}
 use borrow.Author.Tests.{not-true, not-false, le-leb, lt-leb, le-ltb, lt-ltb}
@@ -54,6 +54,23 @@ first-success (r ∷ rs) h = go (accepted r) refl h (first-success rs)
         cond b (firstRefusal rs) r ≡ success
     go true e t ih = ih t
     go false e t ih = absurd (rw e at t)
+
+-- an accepted list has an accepted first part
+pub first-part : (rs ss : List Verdict) → T (accepted (firstRefusal (rs ++ ss))) → T (accepted (firstRefusal rs))
+first-part rs ss h = go (accepted (firstRefusal rs)) refl (subst (λ v. T (accepted v)) (first-append rs ss) h)
+  where
+    go : (b : Bool) → accepted (firstRefusal rs) ≡ b → T (accepted (cond b (firstRefusal ss) (firstRefusal rs))) → T (accepted (firstRefusal rs))
+    go true e t = rw e tt
+    go false e t = t
+
+-- second parts that decide alike where the first accepts
+pub first-same :
+    (rs ss ss′ : List Verdict) → (T (accepted (firstRefusal rs)) → firstRefusal ss ≡ firstRefusal ss′) → firstRefusal (rs ++ ss) ≡ firstRefusal (rs ++ ss′)
+first-same rs ss ss′ same = first-append rs ss ∙ go (accepted (firstRefusal rs)) refl ∙ sym (first-append rs ss′)
+  where
+    go : (b : Bool) → accepted (firstRefusal rs) ≡ b → cond b (firstRefusal ss) (firstRefusal rs) ≡ cond b (firstRefusal ss′) (firstRefusal rs)
+    go true e = same (rw e tt)
+    go false e = refl
 
 module _ (rs ss : List Verdict) (r : Verdict) (e : r ≡ firstRefusal rs) where
   -- a refusal of the first part decides

@@ -11,6 +11,9 @@ pub mod CheckLaws
 pub mod Rearranging
 pub mod Agreement
 pub mod Entries
+pub mod Trailing
+pub mod ColumnsFrom
+pub mod Variances
 pub mod Pivots
 pub mod Exactness
 pub mod FactorsBy

@@ -46,6 +46,10 @@ pub first-passes : (r : Verdict) (rs : List Verdict) → r ≡ success → first
 unfolding firstRefusal
 first-passes r rs e = rw e refl
 
+pub first-refused : (r : Verdict) (rs : List Verdict) → accepted r ≡ false → firstRefusal (r ∷ rs) ≡ r
+unfolding firstRefusal
+first-refused r rs e = rw e refl
+
 pub first-accepted : (r : Verdict) (rs : List Verdict) → T (accepted (firstRefusal (r ∷ rs))) → T (accepted r) × T (accepted (firstRefusal rs))
 unfolding firstRefusal
 first-accepted r rs h = go (accepted r) refl h

@@ -1,5 +1,5 @@
 -- Laws of specs/Sequences.antt: lengths and elements of grown lists, and what `all` and `every` say of each element. Assumes nothing.
-use Prim.Native.Nat.{ℕ, zero, suc, _+_, _<_}
+use Prim.Native.Nat.{ℕ, zero, suc, _+_, _≤_, _<_}
 use native.Mathlib.Nat.{zero-add, suc-add}
 use native.Mathlib.Numerals.{add-one}
 use native.Mathlib.Omega.{arith}
@@ -82,6 +82,19 @@ module _ {A : Type 0} (test : A → Bool) where
   unfolding all
   all-of [] d h = tt
   all-of (x ∷ xs) d h = and-i (test x) (all test xs) (h zero (omega arith)) (all-of xs d (λ i p. h (suc i) (omega arith)))
+
+-- ---- what holds of each number because it holds of those before it
+
+pub rising : (P : ℕ → Type 0) (n : ℕ) → ((i : ℕ) → i < n → ((c : ℕ) → c < i → P c) → P i) → (i : ℕ) → i < n → P i
+rising P n step i h = below n (omega arith) i h
+  where
+    below : (m : ℕ) → m ≤ n → (i : ℕ) → i < m → P i
+    below zero le i h = absurd (omega arith)
+    below (suc m) le i h =
+        elim (decLt i m) [
+          | yes p ↦ below m (omega arith) i p
+          | no p ↦ let e : m ≡ i = omega arith in step i (omega arith) (rw e at (below m (omega arith)))
+        ]
 
 -- ---- every
 

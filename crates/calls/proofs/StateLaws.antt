@@ -10,7 +10,7 @@ use Rattle.calls.specs.declared.Verdict.{Verdict}
 use Rattle.calls.specs.declared.Layout.{Layout}
 use Rattle.calls.specs.declared.Layout.the-variants.{Packed, Blocked}
 use Rattle.calls.specs.declared.Call.{Call}
-use Rattle.calls.specs.declared.Call.the-variants.{Rearranger, Factor, Solver}
+use Rattle.calls.specs.declared.Call.the-variants.{Rearranger, Factor, Solver, Variance}
 use Rattle.calls.specs.declared.states.State.{State}
 use Rattle.calls.specs.declared.states.State.the-variants.{Raw, Factored, Spent}
 use Rattle.calls.specs.declared.states.Transition.the-variants.{Unsuited}
@@ -38,6 +38,7 @@ unfolding lookUp
 past-last (Rearranger from to) state h = rw (other (Raw from) state h, other (Factored from) state h) refl
 past-last (Factor layout) state h = rw (other (Raw layout) state h) refl
 past-last (Solver layout) state h = rw (other (Factored layout) state h) refl
+past-last (Variance layout) state h = rw (other (Factored layout) state h) refl
 
 -- ---- by the verdict
 

@@ -73,7 +73,7 @@ formerSolve layout n b m matrix rhs work =
     formerly
     (firstRefusal
     (rule1 n ∷ rule2 call b ∷ rule3 n (length matrix) ∷ rule4 call n b (length work) ∷ rule5 m ∷ rule6 n m (length rhs) ∷ rule7 matrix ∷ rule8 rhs
-    ∷ rule9 (placeOf layout n b) n matrix ∷ []))
+    ∷ rule9 (placeOf layout n b) 0 n matrix ∷ []))
     (record {
       answer = noRoot verdict;
       memory = solutions n l (cond (accepted verdict) m (verdict .place)) rhs;
@@ -262,7 +262,7 @@ module _ (shape : Shape) where
       let call = Solver layout in
       let place = placeOf layout n b in
       let rest : List Verdict =
-      rule3 n (length matrix) ∷ rule4 call n b (length work) ∷ rule5 m ∷ rule6 n m (length rhs) ∷ rule7 matrix ∷ rule8 rhs ∷ rule9 place n matrix ∷ []
+      rule3 n (length matrix) ∷ rule4 call n b (length work) ∷ rule5 m ∷ rule6 n m (length rhs) ∷ rule7 matrix ∷ rule8 rhs ∷ rule9 place 0 n matrix ∷ []
       in
       call-added (λ (d : Solved). d .result) (λ (d : Solved). d .rhs) (λ (d : Solved). d .work) call shape rest rhs work _ _
       (λ v. record { result = resultOf call shape v; rhs = rhs; work = work }) refl refl refl (λ v. refl) (λ v. refl) (λ v. refl)
@@ -273,7 +273,7 @@ module _ (shape : Shape) where
       (first-holds Other none-other _ _ (rule6-holds Other none-other low-other n m (length rhs))
       (first-holds Other none-other _ _ (finite-holds Other none-other low-other 7 (omega arith) matrix)
       (first-holds Other none-other _ _ (finite-holds Other none-other low-other 8 (omega arith) rhs)
-      (first-holds Other none-other _ _ (rule9-holds Other none-other low-other place n matrix) (none-holds Other none-other))))))))
+      (first-holds Other none-other _ _ (rule9-holds Other none-other low-other place 0 n matrix) (none-holds Other none-other))))))))
 
 -- ---- the pipelines
 

@@ -62,13 +62,19 @@ module _ (place : ℕ → ℕ → ℕ) (n : ℕ) (m : List Float) where
       ∙ getD-tabulate (λ r. getD m (place (j + r) j) nan) (n - j) (i - j) nan (omega arith)
       ∙ ap (λ x. getD m (place x j) nan) back
 
+-- two memories that hold the same at the places of each entry, each by its own layout
+pub load-alike :
+    (place place′ : ℕ → ℕ → ℕ) (n : ℕ) (m m′ : List Float) → ((i j : ℕ) → Entry n i j → getD m (place i j) nan ≡ getD m′ (place′ i j) nan) →
+    load place (height n) n m ≡ load place′ (height n) n m′
+load-alike place place′ n m m′ same =
+    triangle-ext n n (load place (height n) n m) (load place′ (height n) n m′) (omega arith) (shaped-load place n m) (shaped-load place′ n m′)
+    (λ i j e h. entry-load place n m i j e ∙ same i j e ∙ sym (entry-load place′ n m′ i j e))
+
 -- layouts that keep each entry at the same place
-load-same :
+pub load-same :
     (place place′ : ℕ → ℕ → ℕ) (n : ℕ) (m : List Float) → ((i j : ℕ) → Entry n i j → place i j ≡ place′ i j) →
     load place (height n) n m ≡ load place′ (height n) n m
-load-same place place′ n m same =
-    triangle-ext n n (load place (height n) n m) (load place′ (height n) n m) (omega arith) (shaped-load place n m) (shaped-load place′ n m)
-    (λ i j e h. entry-load place n m i j e ∙ ap (λ p. getD m p nan) (same i j e) ∙ sym (entry-load place′ n m i j e))
+load-same place place′ n m same = load-alike place place′ n m m (λ i j e. ap (λ p. getD m p nan) (same i j e))
 
 -- with block length 1, blocked order is packed order
 pub load-one : (n : ℕ) (m : List Float) → load (blockedPlace n 1) (height n) n m ≡ load (packedPlace n) (height n) n m

@@ -1,4 +1,4 @@
--- The six calls, for all inputs: what each returns and what it leaves in every memory. Codes 1 to 9 and 15 leave all memory untouched.
+-- Document 01's six calls, for all inputs: what each returns and what it leaves in every memory. Codes 1 to 9 and 15 leave all memory untouched.
 use Prim.Native.Nat.{ℕ, _*_}
 use mathlib.Core.Path.{_≡_}
 use mathlib.Core.Bool.{Bool, false, cond, _||_}
@@ -168,7 +168,7 @@ solverChecks layout shape m matrix rhs workLength =
     let b = shape .block in
     firstRefusal
     (rule1 n ∷ rule2 call b ∷ rule15 call (shape .state) ∷ rule3 n (length matrix) ∷ rule4 call n b workLength ∷ rule5 m ∷
-    rule6 n m (length rhs) ∷ rule7 matrix ∷ rule8 rhs ∷ rule9 (placeOf layout n b) n matrix ∷ [])
+    rule6 n m (length rhs) ∷ rule7 matrix ∷ rule8 rhs ∷ rule9 (placeOf layout n b) 0 n matrix ∷ [])
 
 -- Right-hand sides are stored one after another, n values each.
 unfoldable pub rhsPart : ℕ → ℕ → List Float → List Float

@@ -1,4 +1,4 @@
--- What a reader has to believe of the six calls, in document 01's order.
+-- What a reader has to believe of the calls, in document 01's order, and then the requests of document 02 that have definitions of their own.
 pub mod Sequences
 pub mod Triangles
 pub mod Arithmetic
@@ -7,3 +7,4 @@ pub mod Refusals
 pub mod Judgements
 pub mod Calls
 pub mod Pipelines
+pub mod Variances

@@ -1,5 +1,5 @@
 -- Document 01, "The list of refusals, in checking order". A rule's answer is success where its condition does not hold.
-use Prim.Native.Nat.{ℕ, zero, suc, _*_}
+use Prim.Native.Nat.{ℕ, zero, suc, _+_, _-_, _*_}
 use mathlib.Core.Bool.{Bool, true, false, cond, not, _&&_, _||_}
 use mathlib.Core.List.{List, [], _∷_}
 use lib.Dec.{ltb, eqb}
@@ -15,7 +15,7 @@ use Rattle.shape.specs.Places.{triangle, blockWork}
 use Rattle.calls.specs.declared.Verdict.{Verdict}
 use Rattle.calls.specs.Sequences.{all}
 use Rattle.calls.specs.declared.Call.{Call}
-use Rattle.calls.specs.declared.Call.the-variants.{Rearranger, Factor, Solver}
+use Rattle.calls.specs.declared.Call.the-variants.{Rearranger, Factor, Solver, Variance}
 use Rattle.calls.specs.declared.Layout.the-variants.{Packed, Blocked}
 use Rattle.calls.specs.Triangles.{Triangle, entry}
 use Rattle.calls.specs.Arithmetic.{pivot, below}
@@ -44,19 +44,23 @@ unfoldable pub lowestRefusal : (ℕ → Verdict) → ℕ → Verdict
 lowestRefusal judge zero = success
 lowestRefusal judge (suc k) = let before = lowestRefusal judge k in cond (accepted before) (judge k) before
 
--- A call is a rearranger from one layout to another, or the factor or solver of a layout; document 01's plain calls are those of the packed layout.
+-- A call is a rearranger from one layout to another, or the factor, the solver or the variance of a layout; document 01's plain calls are those of the
+-- packed layout.
 abbrev pub byBlocks : Call → Bool
 byBlocks (Rearranger from to) = true
 byBlocks (Factor Packed) = false
 byBlocks (Factor Blocked) = true
 byBlocks (Solver Packed) = false
 byBlocks (Solver Blocked) = true
+byBlocks (Variance Packed) = false
+byBlocks (Variance Blocked) = true
 
 abbrev pub neededWork : Call → ℕ → ℕ → ℕ
 neededWork (Rearranger from to) n b = blockWork n b
 neededWork (Factor Packed) n b = n
 neededWork (Factor Blocked) n b = blockWork n b
 neededWork (Solver layout) n b = n
+neededWork (Variance layout) n b = n
 
 -- 1. n is over 4,000.
 unfoldable pub rule1 : ℕ → Verdict
@@ -78,6 +82,10 @@ rule3 n matrixLength = refuseIf (not (eqb matrixLength (triangle n))) (refusal 3
 unfoldable pub rule4 : Call → ℕ → ℕ → ℕ → Verdict
 rule4 call n b workLength = refuseIf (ltb workLength (neededWork call n b)) (refusal 4 0 zero64)
 
+-- 14. The unknown k is not below n.
+unfoldable pub rule14 : ℕ → ℕ → Verdict
+rule14 n k = refuseIf (not (ltb k n)) (refusal 14 0 zero64)
+
 -- 5. A solver has m over 1,000.
 unfoldable pub rule5 : ℕ → Verdict
 rule5 m = refuseIf (ltb maxRhs m) (refusal 5 0 zero64)
@@ -96,9 +104,10 @@ rule7 matrix = finiteRule 7 matrix
 abbrev pub rule8 : List Float → Verdict
 rule8 rhs = finiteRule 8 rhs
 
--- 9. A solver finds a diagonal value not greater than zero (place: lowest such column).
-unfoldable pub rule9 : (ℕ → ℕ → ℕ) → ℕ → List Float → Verdict
-rule9 place n matrix = lowestRefusal (λ j. refuseIf (not (positive (getD matrix (place j j) nan))) (refusal 9 j zero64)) n
+-- 9. A solver finds a diagonal value not greater than zero (place: lowest such column). Columns from k on are judged; a solver judges them from 0 on.
+unfoldable pub rule9 : (ℕ → ℕ → ℕ) → ℕ → ℕ → List Float → Verdict
+rule9 place k n matrix =
+    lowestRefusal (λ c. let j = k + c in refuseIf (not (positive (getD matrix (place j j) nan))) (refusal 9 j zero64)) (n - k)
 
 -- 10. A column's pivot is not greater than zero (place: the column; value: the pivot's bits).
 abbrev pub rule10 : ℕ → Pivot → Verdict

@@ -23,9 +23,17 @@ unfoldable pub placeOf : Layout → ℕ → ℕ → ℕ → ℕ → ℕ
 placeOf Packed n b = packedPlace n
 placeOf Blocked n b = blockedPlace n b
 
+-- the places of the trailing triangle, whose rows and columns are k or later and count from there
+abbrev pub placeFrom : ℕ → (ℕ → ℕ → ℕ) → ℕ → ℕ → ℕ
+placeFrom k place i j = place (k + i) (k + j)
+
 -- n columns of the given heights, read from memory
 unfoldable pub load : (ℕ → ℕ → ℕ) → (ℕ → ℕ) → ℕ → List Float → Triangle
 load place heightOf n memory = tabulate n (λ j. tabulate (heightOf j) (λ r. getD memory (place (j + r) j) nan))
+
+-- the trailing triangle of a lower triangle of order n, itself one of order n − k
+abbrev pub loadFrom : ℕ → (ℕ → ℕ → ℕ) → ℕ → List Float → Triangle
+loadFrom k place n memory = load (placeFrom k place) (height (n - k)) (n - k) memory
 
 -- a column, and a triangle column by column, written over memory, which stays as it was elsewhere
 unfoldable pub storeColumn : (ℕ → ℕ → ℕ) → ℕ → List Float → List Float → List Float

@@ -1,4 +1,4 @@
-// What the six calls share: the layouts, the kinds of calls, a rule's verdict, a factor's judgement and a call's result. The states are in states.rt.
+// What the calls share: the layouts, the kinds of calls, a rule's verdict, a factor's judgement and a call's result. The states are in states.rt.
 ghost use mathlib.Core.Path.{_≡_};
 ghost use Rattle.binary64.specs.Kinds.{zero64};
 ghost use Rattle.calls.specs.Refusals as Refusals;
@@ -14,7 +14,7 @@ pub use states::next;
 use states::state_number;
 pub use states::suits;
 
-// Where the entries of a matrix are kept. The plain factor and solver work on packed memory, the blocked ones on blocked memory.
+// Where the entries of a matrix are kept. The plain calls work on packed memory, the blocked ones on blocked memory.
 pub enum Layout {
     Packed,
     Blocked,
@@ -25,9 +25,10 @@ pub enum Call {
     Rearranger(Layout, Layout),
     Factor(Layout),
     Solver(Layout),
+    Variance(Layout),
 }
 
-// What the rules answer: a code, a place and a value, which are 0, 0 and +0 where none refuses.
+// What the rules answer: a code, a place and a value, which are 0, 0 and +0 where none refuses; the answer of a variance call has its value there.
 pub struct Verdict {
     pub code: usize,
     pub place: usize,

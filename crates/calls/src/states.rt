@@ -60,6 +60,7 @@ pub fn next(call: Call, state: usize) -> Transition
         }
         Call::Factor(layout) => row(state, State::Raw(layout), State::Factored(layout)),
         Call::Solver(layout) => row(state, State::Factored(layout), State::Factored(layout)),
+        Call::Variance(layout) => row(state, State::Factored(layout), State::Factored(layout)),
     }
 }
 

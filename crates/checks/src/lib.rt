@@ -11,9 +11,11 @@ mod rules;
 pub use columns::judge_column;
 pub use columns::refused_below;
 pub use rules::Values;
+pub use rules::check_diagonal;
 pub use rules::check_factor;
 pub use rules::check_finite;
 pub use rules::check_rearranger;
+pub use rules::check_sizes;
 pub use rules::check_solver;
 
 // Every value is tested, so that the loop has no branch.

@@ -1,4 +1,4 @@
-// The checks before any work: rules 1 to 9 and 15 of crate calls, specs/Refusals.antt, in their order. Sizes are multiplied only after the rules that bound them.
+// The checks before any work: rules 1 to 9 and 15 of crate calls, specs/Refusals.antt, in their order; 14 is in crate variance. Sizes are multiplied only after the rules that bound them.
 ghost use mathlib.Core.Path.{_≡_};
 ghost use mathlib.Core.List.{_∷_, []};
 ghost use Prim.Native.Nat.{_≤_, _<_};
@@ -38,6 +38,10 @@ fn by_blocks(call: Call) -> bool
             Layout::Packed => false,
             Layout::Blocked => true,
         },
+        Call::Variance(layout) => match layout {
+            Layout::Packed => false,
+            Layout::Blocked => true,
+        },
     }
 }
 
@@ -52,11 +56,12 @@ fn needed_work(call: Call, shape: Shape) -> usize
             Layout::Blocked => shape.block_work(),
         },
         Call::Solver(_) => shape.order,
+        Call::Variance(_) => shape.order,
     }
 }
 
 // Rules 1, 2, 15, 3 and 4, on the shape and the lengths of the matrix and work memory.
-fn check_sizes(call: Call, shape: Shape, matrix: usize, work: usize) -> Verdict
+pub fn check_sizes(call: Call, shape: Shape, matrix: usize, work: usize) -> Verdict
     ensures { λ r. ⌜ r ≡ firstRefusal (rule1 (shape .order) ∷ rule2 call (shape .block) ∷ rule15 call (shape .state) ∷ rule3 (shape .order) matrix ∷ rule4 call (shape .order) (shape .block) work ∷ []) ⌝ }
 {
     if !shape.order_in_bounds() {
@@ -128,14 +133,15 @@ fn place_of(layout: Layout, shape: Shape, i: usize, j: usize) -> usize
     }
 }
 
-// Rule 9: the lowest column whose diagonal value is not greater than zero.
-fn check_diagonal(layout: Layout, shape: Shape, matrix: &[f64]) -> Verdict
+// Rule 9: the lowest column from k on whose diagonal value is not greater than zero.
+pub fn check_diagonal(layout: Layout, shape: Shape, k: usize, matrix: &[f64]) -> Verdict
     requires { ⌜ shape .order ≤ maxOrder ⌝ }
     requires { ⌜ (T (byBlocks (Call.Solver layout)) → 0 < shape .block) ⌝ }
+    requires { ⌜ k ≤ shape .order ⌝ }
     requires { ⌜ length (now matrix) ≡ triangle (shape .order) ⌝ }
-    ensures { λ r. ⌜ r ≡ rule9 (placeOf layout (shape .order) (shape .block)) (shape .order) (now (matrix .entry)) ⌝ }
+    ensures { λ r. ⌜ r ≡ rule9 (placeOf layout (shape .order) (shape .block)) k (shape .order) (now (matrix .entry)) ⌝ }
 {
-    let mut j = 0;
+    let mut j = k;
     while j < shape.order {
         let p = place_of(layout, shape, j, j);
         if !(matrix[p] > 0.0) {
@@ -194,5 +200,5 @@ pub fn check_solver(
     if !accepted(rhs_values) {
         return rhs_values;
     }
-    check_diagonal(layout, shape, matrix)
+    check_diagonal(layout, shape, 0, matrix)
 }

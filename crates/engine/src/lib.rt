@@ -1,7 +1,9 @@
-// The engine: the six calls for other languages, and both pipelines with the promise that they agree.
+// The engine: the eight calls for other languages, and both pipelines with the promise that they agree.
 ghost use Rattle.calls.specs.declared.Layout.the-variants.{Packed, Blocked};
 ghost use Rattle.calls.specs.Calls as Calls;
 ghost use Rattle.calls.specs.Calls.{DoneAs, SolvedAs, packedToBlocked, blockedToPacked, factorize};
+ghost use Rattle.calls.specs.Variances as Variances;
+ghost use Rattle.calls.specs.Variances.{EvaluatedAs};
 
 mod pipelines;
 
@@ -81,4 +83,28 @@ pub extern "C" fn metsovary_solve_blocked(
     ensures { λ r. ⌜ SolvedAs (Calls.solve Blocked shape m (now (matrix .entry)) (now (rhs .entry)) (now (work .entry))) r (now (rhs .exit)) (now (work .exit)) ⌝ }
 {
     solve::solve_blocked(shape, m, matrix, rhs, work)
+}
+
+#[no_mangle]
+pub extern "C" fn metsovary_variance_plain(
+    shape: Shape,
+    k: usize,
+    matrix: &[f64],
+    work: &mut [f64],
+) -> CallResult
+    ensures { λ r. ⌜ EvaluatedAs (Variances.variance Packed shape k (now (matrix .entry)) (now (work .entry))) r (now (work .exit)) ⌝ }
+{
+    variance::variance_plain(shape, k, matrix, work)
+}
+
+#[no_mangle]
+pub extern "C" fn metsovary_variance_blocked(
+    shape: Shape,
+    k: usize,
+    matrix: &[f64],
+    work: &mut [f64],
+) -> CallResult
+    ensures { λ r. ⌜ EvaluatedAs (Variances.variance Blocked shape k (now (matrix .entry)) (now (work .entry))) r (now (work .exit)) ⌝ }
+{
+    variance::variance_blocked(shape, k, matrix, work)
 }

@@ -1,7 +1,6 @@
 -- Products, and products subtracted one by one: one more, and a run of them that follows another. Assumes nothing.
-use Prim.Native.Nat.{ℕ, zero, suc, _+_, _-_, _*_, _≤_, _<_}
+use Prim.Native.Nat.{ℕ, _+_, _-_, _*_, _≤_, _<_}
 use native.Mathlib.Nat as Nat
-use native.Mathlib.Nat.{add-zero, add-suc}
 use native.Mathlib.Numerals.{add-one}
 use native.Mathlib.Omega.{arith}
 use mathlib.Core.Path.{_≡_, refl, ap, ap₂, _∙_}
@@ -43,14 +42,6 @@ minus-none x y t = refl
 pub minus-next : (x y : ℕ → Float) (k : ℕ) (t : Float) → minusProducts x y (k + 1) t ≡ sub binary64 (minusProducts x y k t) (mul binary64 (x k) (y k))
 unfolding minusProducts
 minus-next x y k t = rw add-one
-
--- the products from k on follow the first k
-pub minus-add :
-    (x y : ℕ → Float) (k c : ℕ) (t : Float) →
-    minusProducts x y (k + c) t ≡ minusProducts (λ q. x (k + q)) (λ q. y (k + q)) c (minusProducts x y k t)
-unfolding minusProducts
-minus-add x y k zero t = rw add-zero
-minus-add x y k (suc c) t = rw add-suc (ap (λ u. sub binary64 u (mul binary64 (x (k + c)) (y (k + c)))) (minus-add x y k c t))
 
 -- a turn of a loop over falling k
 pub falling-next :

@@ -13,10 +13,9 @@ use Rattle.shape.proofs.Columns.{triangle-exact, block-start-zero}
 use Rattle.shape.proofs.Rows.{place-in-block-row, row-start-under}
 use Rattle.shape.proofs.Blocks.{block-of-le, block-before, block-end, width-full, blocked-place-at}
 use Rattle.calls.specs.Arithmetic.{minusProducts}
-use Rattle.calls.proofs.Columns.{products-same}
+use Rattle.calls.proofs.Columns.{products-same, minus-add}
 use Rattle.kernels.specs.Kernels.{Filled, RowsBelow, TileIs, tileAt, rowAt, runAt, laneAt}
 use Rattle.kernels.proofs.Parts.{filled-append}
-use Rattle.kernels.proofs.Products.{minus-add}
 
 pub square-ge : (w : ℕ) → w ≤ w * w
 square-ge zero = omega arith

@@ -15,7 +15,8 @@ use Rattle.shape.proofs.Bounds.{triangle-le}
 use Rattle.calls.specs.Arithmetic.{minusProducts}
 use Rattle.kernels.specs.Kernels.{Replaced}
 use Rattle.kernels.proofs.Parts.{filled-same, filled-at, filled-here, filled-append}
-use Rattle.kernels.proofs.Products.{minus-none, minus-next, minus-add}
+use Rattle.calls.proofs.Columns.{minus-add}
+use Rattle.kernels.proofs.Products.{minus-none, minus-next}
 use Rattle.plain_factor.specs.Steps.{Column, lessProducts, reduced, Waiting, TileReduced, RowsReduced, GroupReduced, PairReduced}
 
 -- ---- places

@@ -82,6 +82,15 @@ pub width-last : (n b c : ℕ) → n - c ≤ b → width n b c ≡ n - c
 unfolding width
 width-last n b c h = omega arith
 
+-- a block column that ends before the last is whole
+width-inside : (n b c : ℕ) → c + width n b c < n → width n b c ≡ b
+unfolding width
+width-inside n b c inside = omega arith
+
+-- the next block column's first column, where there is one
+pub first-next : (n b c : ℕ) → 0 < b → blockOf b c ≡ c → c + width n b c < n → blockOf b (c + width n b c) ≡ c + width n b c
+first-next n b c pos first inside = rw (width-inside n b c inside) (block-of-next b c pos first)
+
 pub column-in-width : (n b j : ℕ) → 0 < b → j < n → j - blockOf b j < width n b (blockOf b j)
 unfolding width
 column-in-width n b j hb h = omega (arith, block-of-le b j, block-of-lt b j hb)

@@ -1,6 +1,6 @@
 -- The closed formulas of triangle, block start and packed place. Each product is even, so that its half is exact, and each half is
 -- the start of a part: of a row of a triangle, or of a column. Assumes nothing.
-use mathlib.Core.Path.{_≡_, refl, ap, sym}
+use mathlib.Core.Path.{_≡_, refl, ap, sym, _∙_}
 use Prim.Native.Nat.{ℕ, zero, suc, _+_, _-_, _*_, _≤_, _<_}
 use native.Mathlib.Nat.{div-eq-of-eq-mul-right}
 use native.Mathlib.Omega.{arith}
@@ -84,6 +84,13 @@ block-start-split n c k h =
 
 pub triangle-columns : (n : ℕ) → triangle n ≡ blockStart n n
 triangle-columns n = omega (arith, triangle-exact n, block-start-double n n (omega arith))
+
+-- the triangle's columns from c on are a triangle of order n − c
+pub triangle-rest : (n c : ℕ) → c ≤ n → triangle n ≡ blockStart n c + triangle (n - c)
+triangle-rest n c h =
+    let whole : c + (n - c) ≡ n = omega arith in
+    triangle-columns n ∙ ap (blockStart n) (sym whole) ∙ block-start-split n c (n - c) (omega arith)
+    ∙ ap (λ t. blockStart n c + t) (sym (triangle-columns (n - c)))
 
 -- ---- packed places
 

@@ -7,14 +7,13 @@ use mathlib.Core.Path.{_≡_, refl, sym, ap, _∙_}
 use mathlib.Core.List.{List}
 use lib.ListN.{length, getD, take}
 use lib.Ieee.{Float, nan}
-use Rattle.shape.specs.Places.{placeInBlock}
-use Rattle.shape.proofs.Rows.{place-in-block-next-row-under}
 use Rattle.calls.specs.Arithmetic.{minusProducts}
 use Rattle.calls.proofs.Columns.{products-same}
 use Rattle.kernels.specs.Kernels.{Scattered, risingFrom}
 use Rattle.kernels.proofs.Products.{rising-prefix}
-use Rattle.solve.specs.Substitution.{entriesAt, RowsApart, RowsSubtracted}
-use Rattle.solve.proofs.BlockPlaces.{row-entries}
+use Rattle.solve.specs.declared.blocked.Trailing.{Trailing}
+use Rattle.solve.specs.Substitution.{blockEntries, RowsApart, RowsSubtracted}
+use Rattle.solve.proofs.BlockPlaces.{rowPlace, room, row-entries, room-under, next-under}
 
 -- ---- numbers as i + s · q, i below q
 
@@ -57,29 +56,32 @@ apart-inside q s t few short = omega (arith, apart-le q s 8 few)
 
 -- ---- where rows begin
 
-pub place-apart : (w r k : ℕ) → w ≤ r → placeInBlock w (r + k) 0 ≡ placeInBlock w r 0 + k * w
-place-apart w r zero low = rw add-zero (omega (arith, zero-mul w))
-place-apart w r (suc k) low =
-    let next : r + k + 1 ≡ r + suc k = omega arith in
-    sym (ap (λ x. placeInBlock w x 0) next)
-    ∙ place-in-block-next-row-under w (r + k) 0 (omega arith)
-    ∙ omega (arith, place-apart w r k low, suc-mul k w)
+module _ (block : Trailing) where
+  abbrev width : ℕ
+  width = block .skip + block .w
 
-pub place-apart8 :
-    (w t q s first next from : ℕ) → first ≡ placeInBlock w w 0 → next ≡ placeInBlock w (w + q) 0 → from ≡ placeInBlock w (w + t) 0 →
-    from + s * (next - first) ≡ placeInBlock w (w + t + s * q) 0
-place-apart8 w t q s first next from begins ends place =
-    let step : next - first ≡ q * w = omega (arith, place-apart w w q (omega arith)) in
-    ap (λ x. from + s * x) step ∙ omega (arith, sym (mul-assoc s q w), place-apart w (w + t) (s * q) (omega arith))
+  place-apart : (r k : ℕ) → block .w ≤ r → rowPlace block (r + k) ≡ rowPlace block r + k * width
+  place-apart r zero low = rw (add-zero r) (omega (arith, zero-mul width))
+  place-apart r (suc k) low =
+      let next : r + k + 1 ≡ r + suc k = omega arith in
+      sym (ap (rowPlace block) next) ∙ next-under block (r + k) (block .skip) (omega arith) ∙ omega (arith, place-apart r k low, suc-mul k width)
+
+  pub step-le : (q : ℕ) → 0 < block .w → block .w + q < block .h → q * width ≤ room block
+  step-le q pos fits =
+      omega (arith, place-apart (block .w) q (omega arith), room-under block (block .w + q) pos (omega arith) (omega arith) (omega arith))
+
+  pub place-apart8 :
+      (q t s from : ℕ) → from ≡ rowPlace block (block .w + t) → from + s * (q * width) ≡ rowPlace block (block .w + t + s * q)
+  place-apart8 q t s from place = omega (arith, sym (mul-assoc s q width), place-apart (block .w + t) (s * q) (omega arith))
 
 -- ---- eight rows
 
-module _ (w q t : ℕ) (part v : List Float) where
+module _ (block : Trailing) (q t : ℕ) (part v : List Float) where
   pub apart8-done :
-      (loaded reduced v′ : List Float) (places rows : ℕ → ℕ) → w ≤ length v → ((s : ℕ) → s < 8 → rows s ≡ w + t + s * q) →
-      ((s : ℕ) → s < 8 → getD loaded s nan ≡ getD v (rows s + 0) nan) → ((s : ℕ) → s < 8 → places s ≡ placeInBlock w (w + t + s * q) 0) →
-      ((s : ℕ) → s < 8 → getD reduced s nan ≡ risingFrom part (places s) (take w v) (length (take w v)) (getD loaded s nan)) →
-      Scattered 8 (λ s. rows s + 0) (λ s. getD reduced s nan) v v′ → RowsApart (entriesAt (placeInBlock w) part) w q t v v′
+      (loaded reduced v′ : List Float) (places rows : ℕ → ℕ) → block .w ≤ length v → ((s : ℕ) → s < 8 → rows s ≡ block .w + t + s * q) →
+      ((s : ℕ) → s < 8 → getD loaded s nan ≡ getD v (rows s + 0) nan) → ((s : ℕ) → s < 8 → places s ≡ rowPlace block (block .w + t + s * q)) →
+      ((s : ℕ) → s < 8 → getD reduced s nan ≡ risingFrom part (places s) (take (block .w) v) (length (take (block .w) v)) (getD loaded s nan)) →
+      Scattered 8 (λ s. rows s + 0) (λ s. getD reduced s nan) v v′ → RowsApart (blockEntries block part) (block .w) q t v v′
   apart8-done loaded reduced v′ places rows fits placed load begins reduce scattered =
       record {
         size = scattered .size;
@@ -87,14 +89,14 @@ module _ (w q t : ℕ) (part v : List Float) where
             ap (λ p. getD v′ p nan) (sym (position s few))
             ∙ scattered .inside s few
             ∙ reduce s few
-            ∙ rising-prefix (λ k. getD part (placeInBlock w (w + t + s * q) k) nan) part v (places s) w (getD loaded s nan) fits
-            (λ k p. row-entries w (w + t + s * q) (places s) k part (begins s few))
-            ∙ ap (minusProducts (λ k. getD part (placeInBlock w (w + t + s * q) k) nan) (λ k. getD v k nan) w)
+            ∙ rising-prefix (λ k. blockEntries block part (block .w + t + s * q) k) part v (places s) (block .w) (getD loaded s nan) fits
+            (λ k p. row-entries block (block .w + t + s * q) (places s) k part (begins s few))
+            ∙ ap (minusProducts (λ k. blockEntries block part (block .w + t + s * q) k) (λ k. getD v k nan) (block .w))
             (load s few ∙ ap (λ p. getD v p nan) (position s few));
         outside = λ p none. scattered .outside p (λ s few e. none s few (e ∙ position s few));
       }
     where
-      position : (s : ℕ) → s < 8 → rows s + 0 ≡ w + t + s * q
+      position : (s : ℕ) → s < 8 → rows s + 0 ≡ block .w + t + s * q
       position s few = omega (arith, placed s few)
 
 -- ---- all rows of the eighths

@@ -1,23 +1,26 @@
 -- A part of a factor's memory that begins at a block column: its entries are the factor's, in both layouts. Assumes nothing.
 use Prim.Native.Nat.{ℕ, _+_, _-_, _≤_, _<_}
-use native.Mathlib.Nat.{add-zero}
+use native.Mathlib.Nat.{add-zero, add-assoc}
 use native.Mathlib.Omega.{arith}
-use mathlib.Core.Path.{_≡_, sym, ap, _∙_}
+use mathlib.Core.Path.{_≡_, sym, ap, ap₂, _∙_}
+use mathlib.Core.Logic.{_⊎_, inl, inr}
 use mathlib.Core.List.{List}
-use lib.ListN.{getD, take, drop}
+use lib.ListN.{length, getD, take, drop}
 use lib.Ieee.{Float, nan}
 use Rattle.shape.specs.Places.{triangle, packedPlace, blockOf, blockStart, width, placeInBlock, blockedPlace}
 use Rattle.shape.specs.Layouts.{Entry}
-use Rattle.shape.proofs.Columns.{block-start-split, triangle-columns, packed-place-column, packed-place-at, packed-place-lt}
+use Rattle.shape.proofs.Columns.{triangle-columns, triangle-rest, packed-place-column, packed-place-at, packed-place-lt}
 use Rattle.shape.proofs.Rows.{place-in-block-lt}
 use Rattle.shape.proofs.Blocks.{width-le, width-le-block, blocked-place-at}
 use Rattle.shape.proofs.Runs.{blocked-place-from}
 use Rattle.shape.proofs.Bijections.{blocked-bijection}
-use Rattle.calls.specs.Triangles.{entry, height, load}
-use Rattle.calls.proofs.Triangles.{entry-load, load-one}
+use Rattle.calls.specs.Triangles.{entry, height, load, placeFrom, loadFrom}
+use Rattle.calls.proofs.Triangles.{triangle-ext, shaped-load, entry-load, load-one}
+use Rattle.calls.proofs.Trailing.{trailing-entry}
 use Rattle.kernels.proofs.Parts.{getD-part}
-use Rattle.solve.specs.Substitution.{entriesAt}
-use Rattle.solve.proofs.Substitution.{Agrees}
+use Rattle.solve.specs.declared.blocked.Trailing.{Trailing}
+use Rattle.solve.specs.Substitution.{entriesAt, blockEntries}
+use Rattle.solve.proofs.Substitution.{Agrees, lent}
 
 -- an entry at place p of the part
 part-entry :
@@ -25,13 +28,6 @@ part-entry :
     getD (take m (drop at matrix)) p nan ≡ entry (load place (height n) n matrix) i j
 part-entry place n matrix at m i j p e h g =
     getD-part nan at m matrix p h ∙ ap (λ q. getD matrix q nan) g ∙ sym (entry-load place n matrix i j e)
-
--- the triangle's columns from c on are a triangle of order n − c
-pub triangle-rest : (n c : ℕ) → c ≤ n → triangle n ≡ blockStart n c + triangle (n - c)
-triangle-rest n c h =
-    let whole : c + (n - c) ≡ n = omega arith in
-    triangle-columns n ∙ ap (blockStart n) (sym whole) ∙ block-start-split n c (n - c) (omega arith)
-    ∙ ap (λ t. blockStart n c + t) (sym (triangle-columns (n - c)))
 
 module _ (n c : ℕ) (matrix : List Float) where
   -- packed: one column, and the columns from c on
@@ -56,7 +52,7 @@ module _ (n c : ℕ) (matrix : List Float) where
       (sym (packed-place-at n c r s here))
 
   -- blocked: one block column
-  pub block-agrees :
+  block-agrees :
       (b m : ℕ) → blockOf b c ≡ c → blockStart (n - c) (width n b c) ≤ m →
       Agrees n c (width n b c) (load (blockedPlace n b) (height n) n matrix)
       (entriesAt (placeInBlock (width n b c)) (take m (drop (blockStart n c) matrix)))
@@ -66,6 +62,16 @@ module _ (n c : ℕ) (matrix : List Float) where
       (record { lower = omega arith; inside = h })
       (omega (arith, place-in-block-lt (n - c) w r s (width-le n b c) (omega arith) (omega arith)))
       (sym (blocked-place-at n b c r s first (omega (arith, width-le-block n b c))))
+
+  -- what is left of it, from column k on
+  pub block-agrees-from :
+      (b k m : ℕ) (block : Trailing) → blockOf b c ≡ c → c + block .skip ≡ k → block .skip + block .w ≡ width n b c →
+      blockStart (n - c) (width n b c) ≤ m →
+      Agrees n k (block .w) (load (blockedPlace n b) (height n) n matrix) (blockEntries block (take m (drop (blockStart n c) matrix)))
+  block-agrees-from b k m block first here wide enough r s low le h =
+      let row : k + r ≡ c + (block .skip + r) = omega arith in
+      let column : k + s ≡ c + (block .skip + s) = omega arith in
+      rw (row, column, wide) (block-agrees b m first enough (block .skip + r) (block .skip + s) (omega arith) (omega arith) (omega arith))
 
   -- blocked: the columns from c on, a block column's first
   pub run-agrees :
@@ -82,3 +88,49 @@ module _ (n c : ℕ) (matrix : List Float) where
 pub one-column :
     (n b : ℕ) (matrix : List Float) → b ≡ 1 → load (packedPlace n) (height n) n matrix ≡ load (blockedPlace n b) (height n) n matrix
 one-column n b matrix one = rw one (sym (load-one n matrix))
+
+-- ---- trailing triangles
+
+-- a part with the factor's entries from column k on
+trailing-part :
+    (place place′ : ℕ → ℕ → ℕ) (n k : ℕ) (matrix part : List Float) → k ≤ n →
+    Agrees n k (n - k) (load place (height n) n matrix) (entriesAt place′ part) →
+    load place′ (height (n - k)) (n - k) part ≡ loadFrom k place n matrix
+trailing-part place place′ n k matrix part fits agrees =
+    triangle-ext (n - k) (n - k) (load place′ (height (n - k)) (n - k) part) (loadFrom k place n matrix) (omega arith) (shaped-load place′ (n - k) part)
+    (shaped-load (placeFrom k place) (n - k) matrix)
+    (λ i j e h.
+    entry-load place′ (n - k) part i j e ∙ agrees i j h (e .lower) (omega (arith, e .inside)) ∙ sym (trailing-entry place n k matrix fits i j e))
+
+module _ (n k at : ℕ) (matrix : List Float) (fits : k ≤ n) (size : length matrix ≡ triangle n) (place : at ≡ blockStart n k) where
+  pub packed-trailing : load (packedPlace (n - k)) (height (n - k)) (n - k) (lent at matrix) ≡ loadFrom k (packedPlace n) n matrix
+  packed-trailing =
+      rw place
+      (trailing-part (packedPlace n) (packedPlace (n - k)) n k matrix (lent (blockStart n k) matrix) fits
+      (packed-agrees n k matrix (length matrix - blockStart n k) (n - k) (omega arith) (omega (arith, triangle-rest n k fits))))
+
+  -- from the first column of a block column on, or from the end
+  pub blocked-trailing :
+      (b : ℕ) → 0 < b → (k ≡ n) ⊎ (blockOf b k ≡ k) →
+      load (blockedPlace (n - k) b) (height (n - k)) (n - k) (lent at matrix) ≡ loadFrom k (blockedPlace n b) n matrix
+  blocked-trailing b pos whole =
+      rw place
+      (trailing-part (blockedPlace n b) (blockedPlace (n - k) b) n k matrix (lent (blockStart n k) matrix) fits (agrees whole))
+    where
+      agrees :
+          (k ≡ n) ⊎ (blockOf b k ≡ k) →
+          Agrees n k (n - k) (load (blockedPlace n b) (height n) n matrix) (entriesAt (blockedPlace (n - k) b) (lent (blockStart n k) matrix))
+      agrees (inl end) = λ r s low le h. absurd (omega arith)
+      agrees (inr first) =
+          run-agrees n k matrix b (length matrix - blockStart n k) (n - k) pos first (omega arith) (omega (arith, triangle-rest n k fits))
+
+-- the trailing triangle of a trailing triangle
+pub trailing-again :
+    (place : ℕ → ℕ → ℕ) (n k w : ℕ) (matrix : List Float) → k + w ≤ n → (i j : ℕ) → Entry (n - k - w) i j →
+    entry (loadFrom (k + w) place n matrix) i j ≡ entry (loadFrom k place n matrix) (w + i) (w + j)
+trailing-again place n k w matrix fits i j e =
+    let here : Entry (n - (k + w)) i j = record { lower = e .lower; inside = omega (arith, e .inside) } in
+    let there : Entry (n - k) (w + i) (w + j) = record { lower = omega (arith, e .lower); inside = omega (arith, e .inside) } in
+    trailing-entry place n (k + w) matrix fits i j here
+    ∙ ap₂ (entry (load place (height n) n matrix)) (add-assoc k w i) (add-assoc k w j)
+    ∙ sym (trailing-entry place n k matrix (omega arith) (w + i) (w + j) there)

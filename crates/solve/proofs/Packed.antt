@@ -8,14 +8,14 @@ use lib.Seq.{getD-set-same, getD-set-other}
 use lib.Ieee.{Float, nan, binary64, sub, mul, div}
 use Rattle.shape.specs.Places.{triangle, packedPlace, blockStart}
 use Rattle.shape.proofs.Bounds.{block-start-le}
-use Rattle.shape.proofs.Columns.{block-start-next, packed-place-diagonal, packed-place-column}
+use Rattle.shape.proofs.Columns.{block-start-next, packed-place-diagonal, packed-place-column, triangle-rest}
 use Rattle.calls.specs.Arithmetic.{minusProducts}
 use Rattle.calls.specs.Triangles.{height, load}
 use Rattle.kernels.specs.Kernels.{Replaced, MultipleSubtracted, fallingFrom}
 use Rattle.kernels.proofs.Parts.{getD-part}
 use Rattle.kernels.proofs.Products.{minus-none, minus-next, falling-part}
 use Rattle.solve.specs.Substitution.{entriesAt, ForwardDone, ProductsSubtracted, BackwardDone}
-use Rattle.solve.proofs.Factors.{triangle-rest, column-agrees, packed-agrees}
+use Rattle.solve.proofs.Factors.{column-agrees, packed-agrees}
 use Rattle.solve.proofs.Substitution.{ForwardTo, BackwardTo, lent, returned, length-lent, returned-whole, forward-lent, backward-lent}
 use Rattle.solve.proofs.Triangles.{BackwardRows, backward-next}
 

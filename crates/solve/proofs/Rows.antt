@@ -8,9 +8,9 @@ use lib.ListN.{length, getD, set, length-set}
 use lib.Seq.{getD-set-same, getD-set-other}
 use lib.Ieee.{Float, nan, binary64, sub, mul}
 use Rattle.calls.specs.Arithmetic.{minusProducts}
-use Rattle.calls.proofs.Columns.{products-same}
+use Rattle.calls.proofs.Columns.{products-same, minus-add}
 use Rattle.kernels.specs.Kernels.{Filled}
-use Rattle.kernels.proofs.Products.{minus-none, minus-next, minus-add}
+use Rattle.kernels.proofs.Products.{minus-none, minus-next}
 use Rattle.solve.specs.Substitution.{RowsReplaced, RowsSubtracted, RowTaken, ColumnsSubtracted}
 
 -- ---- any rows

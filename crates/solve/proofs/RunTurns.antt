@@ -13,6 +13,7 @@ use Rattle.shape.specs.Bounds.{maxOrder}
 use Rattle.shape.specs.Places.{triangle, blockOf, blockStart, width, blockedPlace}
 use Rattle.shape.proofs.Blocks.{block-of-le, block-of-lt, block-of-block, width-le, width-le-block}
 use Rattle.shape.proofs.Runs.{block-of-run}
+use Rattle.shape.proofs.Columns.{triangle-rest}
 use Rattle.calls.specs.Triangles.{Triangle, entry, height, load}
 use Rattle.calls.specs.Arithmetic.{minusProducts, forward, backward}
 use Rattle.calls.proofs.Triangles.{entry-load}
@@ -23,7 +24,7 @@ use Rattle.kernels.specs.Kernels.{Replaced, RowsBelow, TileIs, tileAt, runAt, l
 use Rattle.kernels.proofs.Parts.{length-part, prefix-replaced}
 use Rattle.solve.specs.Substitution.{entriesAt, BlockRows, BlockRun, RunIs, TriangleForward, RowsSubtracted, ForwardDone, ProductsSubtracted, BackwardDone}
 use Rattle.solve.proofs.BlockTurns.{Whole}
-use Rattle.solve.proofs.Factors.{triangle-rest, run-agrees}
+use Rattle.solve.proofs.Factors.{run-agrees}
 use Rattle.solve.proofs.Rows.{replaced-of-filled}
 use Rattle.solve.proofs.Substitution.{Agrees, ForwardTo, BackwardTo, lent, returned, length-lent, forward-lent, backward-lent}
 

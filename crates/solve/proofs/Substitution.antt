@@ -1,19 +1,22 @@
 -- How far a substitution has come, and that a finished block column takes it further. Assumes nothing.
 use Prim.Native.Nat.{ℕ, zero, suc, _+_, _-_, _≤_, _<_}
+use native.Mathlib.Nat.{zero-add, sub-zero}
 use native.Mathlib.Omega.{arith}
 use native.Mathlib.Decide.{decLt}
 use mathlib.Core.Path.{_≡_, refl, sym, ap, ap₂, _∙_}
 use mathlib.Core.List.{List, _++_}
-use lib.ListN.{length, getD, take, drop}
+use lib.ListN.{length, getD, take, drop, List·getD-eq-default}
 use lib.Seq.{ext-getD}
 use lib.Ieee.{Float, nan, binary64, div}
+use Rattle.shape.specs.Layouts.{Entry}
 use Rattle.calls.specs.Triangles.{Triangle, entry}
 use Rattle.calls.specs.Arithmetic.{minusProducts, forward, backward}
-use Rattle.calls.proofs.Columns.{products-same}
+use Rattle.calls.proofs.Columns.{products-same, minus-add}
 use Rattle.calls.proofs.Entries.{length-forward, forward-entry, length-backward, backward-entry}
+use Rattle.calls.proofs.Trailing.{count-up, row-of-up, row-and-up, up-above, forward-trailing, backward-trailing}
 use Rattle.kernels.specs.Kernels.{Replaced}
 use Rattle.kernels.proofs.Parts.{getD-part, length-part, part-replaced}
-use Rattle.kernels.proofs.Products.{minus-none, minus-add}
+use Rattle.kernels.proofs.Products.{minus-none}
 use Rattle.solve.specs.Substitution.{TriangleForward, RowsSubtracted, ForwardDone, ProductsSubtracted, BackwardDone}
 
 -- the block column that begins with column c has the factor's entries
@@ -129,18 +132,6 @@ backward-end n l y work s =
     (λ i h. s .done i (omega arith) (omega (arith, s .size)))
 
 -- rows counted from the last up
-count-up : (n c q r : ℕ) → c + r + q + 1 ≡ n → n - c - 1 - r ≡ q
-count-up n c q r e = omega arith
-
-row-of-up : (n c k : ℕ) → c + k < n → c + (n - c - 1 - k) ≡ n - 1 - k
-row-of-up n c k h = omega arith
-
-row-and-up : (n c k : ℕ) → c + k < n → c + (n - c - 1 - k) + k + 1 ≡ n
-row-and-up n c k h = omega arith
-
-up-above : (n c q r k : ℕ) → c + r + q + 1 ≡ n → k < q → r ≤ n - c - 1 - k
-up-above n c q r k e h = omega arith
-
 up-inside : (n c k : ℕ) → c + k < n → c + (n - c - 1 - k) < n
 up-inside n c k h = omega arith
 
@@ -258,18 +249,87 @@ pub length-returned :
     (n c : ℕ) (work v′ : List Float) → length work ≡ n → c ≤ n → length v′ ≡ length (lent c work) → length (returned c work v′) ≡ n
 length-returned n c work v′ e le size = returned-whole n c work v′ e le size .size ∙ e
 
+lent-entry : (n c : ℕ) (work : List Float) → length work ≡ n → (r : ℕ) → c + r < n → getD (lent c work) r nan ≡ getD work (c + r) nan
+lent-entry n c work e r h = getD-part nan c (length work - c) work r (omega arith)
+
 module _
     (n c w : ℕ) (l : Triangle) (y work v′ : List Float) (coefficient : ℕ → ℕ → Float)
     (fits : c + w ≤ n) (agrees : Agrees n c w l coefficient) where
-  same-part : length work ≡ n → (r : ℕ) → c + r < n → getD (lent c work) r nan ≡ getD work (c + r) nan
-  same-part e r h = getD-part nan c (length work - c) work r (omega arith)
-
   pub forward-lent : ForwardTo n l y c work → ForwardDone coefficient (n - c) w (lent c work) v′ → ForwardTo n l y (c + w) (returned c work v′)
   forward-lent state done =
-      forward-further n c w l y work (lent c work) v′ (returned c work v′) coefficient fits agrees (same-part (state .size)) state done
+      forward-further n c w l y work (lent c work) v′ (returned c work v′) coefficient fits agrees (lent-entry n c work (state .size)) state done
       (returned-whole n c work v′ (state .size) (omega arith) (done .size))
 
   pub backward-lent : BackwardTo n l y (c + w) work → BackwardDone coefficient (n - c) w (lent c work) v′ → BackwardTo n l y c (returned c work v′)
   backward-lent state done =
-      backward-further n c w l y work (lent c work) v′ (returned c work v′) coefficient fits agrees (same-part (state .size)) state done
+      backward-further n c w l y work (lent c work) v′ (returned c work v′) coefficient fits agrees (lent-entry n c work (state .size)) state done
       (returned-whole n c work v′ (state .size) (omega arith) (done .size))
+
+-- ---- the first block column, with all rows
+
+all-replaced : (n : ℕ) (work v′ : List Float) → length work ≡ n → length v′ ≡ length work → Replaced nan 0 n work v′ v′
+all-replaced n work v′ e size =
+    record {
+      size = size;
+      before = λ i h. absurd (omega arith);
+      inside = λ r h. ap (λ q. getD v′ q nan) (zero-add r);
+      after = λ i h. List·getD-eq-default v′ nan (omega arith) ∙ sym (List·getD-eq-default work nan (omega arith));
+    }
+
+module _
+    (n w : ℕ) (l : Triangle) (y work v′ : List Float) (coefficient : ℕ → ℕ → Float)
+    (fits : w ≤ n) (agrees : (r s : ℕ) → s < w → s ≤ r → r < n → coefficient r s ≡ entry l r s) where
+  agrees-first : Agrees n 0 w l coefficient
+  agrees-first r s inside low h = rw (zero-add r, zero-add s) (agrees r s inside low (omega arith))
+
+  row-first : (r : ℕ) → 0 + r < n → getD work r nan ≡ getD work (0 + r) nan
+  row-first r h = ap (λ q. getD work q nan) (sym (zero-add r))
+
+  pub forward-first : ForwardTo n l y 0 work → ForwardDone coefficient n w work v′ → ForwardTo n l y w v′
+  forward-first state done =
+      rw (zero-add w) at (forward-further n 0 w l y work work v′ v′ coefficient (omega arith) agrees-first row-first state (rw (sub-zero n) done)
+      (rw (sub-zero n) (all-replaced n work v′ (state .size) (done .size))))
+
+  pub backward-first : BackwardTo n l y w work → BackwardDone coefficient n w work v′ → BackwardTo n l y 0 v′
+  backward-first state done =
+      backward-further n 0 w l y work work v′ v′ coefficient (omega arith) agrees-first row-first (rw (zero-add w) state) (rw (sub-zero n) done)
+      (rw (sub-zero n) (all-replaced n work v′ (state .size) (done .size)))
+
+-- ---- the rows from c on, by the trailing triangle
+
+module _
+    (n c : ℕ) (l l′ : Triangle) (y work v′ : List Float) (fits : c ≤ n)
+    (same : (i j : ℕ) → Entry (n - c) i j → entry l′ i j ≡ entry l (c + i) (c + j)) where
+  pub forward-rest : ForwardTo n l y c work → v′ ≡ forward (n - c) l′ (lent c work) → ForwardTo n l y n (returned c work v′)
+  forward-rest state e =
+      let size = length-lent n c work (state .size) fits in
+      let whole = returned-whole n c work v′ (state .size) fits (ap length e ∙ length-forward (n - c) l′ (lent c work) ∙ sym size) in
+      record {
+        size = whole .size ∙ state .size;
+        done = λ i h.
+            elim (decLt i c) [
+              | yes before ↦ whole .before i before ∙ state .done i before
+              | no after ↦
+                  let at : c + (i - c) ≡ i = omega arith in
+                  rw at at
+                  (whole .inside (i - c) (omega arith) ∙ ap (λ v. getD v (i - c) nan) e
+                  ∙ forward-trailing n c l l′ fits same y (lent c work)
+                  (λ r p. lent-entry n c work (state .size) r (omega arith) ∙ state .rest (c + r) (omega arith) (omega arith)) (i - c) (omega arith))
+            ];
+        rest = λ i low h. absurd (omega arith);
+      }
+
+  pub backward-rest : BackwardTo n l y n work → v′ ≡ backward (n - c) l′ (lent c work) → BackwardTo n l y c (returned c work v′)
+  backward-rest state e =
+      let size = length-lent n c work (state .size) fits in
+      let whole = returned-whole n c work v′ (state .size) fits (ap length e ∙ length-backward (n - c) l′ (lent c work) ∙ sym size) in
+      record {
+        size = whole .size ∙ state .size;
+        done = λ i low h.
+            let at : c + (i - c) ≡ i = omega arith in
+            rw at at
+            (whole .inside (i - c) (omega arith) ∙ ap (λ v. getD v (i - c) nan) e
+            ∙ backward-trailing n c l l′ fits same y (lent c work)
+            (λ r p. lent-entry n c work (state .size) r (omega arith) ∙ state .rest (c + r) (omega arith)) (i - c) (omega arith));
+        rest = λ i h. whole .before i h ∙ state .rest i (omega arith);
+      }

@@ -1,5 +1,5 @@
 -- What is promised of one right-hand side and of all of them, the checks being passed.
-use Prim.Native.Nat.{ℕ, _≤_}
+use Prim.Native.Nat.{ℕ, _-_, _≤_, _<_}
 use mathlib.Core.Path.{_≡_}
 use mathlib.Core.Bool.{Bool, true, cond, _&&_}
 use mathlib.Core.List.{List}
@@ -13,20 +13,23 @@ use Rattle.calls.specs.declared.Verdict.{Verdict}
 use Rattle.calls.specs.declared.Layout.{Layout}
 use Rattle.calls.specs.declared.Call.the-variants.{Solver}
 use Rattle.calls.specs.Sequences.{all}
-use Rattle.calls.specs.Triangles.{Triangle, placeOf, height, load}
+use Rattle.calls.specs.Triangles.{Triangle, placeOf, loadFrom}
 use Rattle.calls.specs.Arithmetic.{forward}
 use Rattle.calls.specs.Refusals.{accepted, byBlocks}
 use Rattle.calls.specs.Calls.{solution, rhsVerdict, solutions}
 
--- a factor of order n, with work memory for one right-hand side
-pub record Checked (layout : Layout) (n b : ℕ) (matrix work : List Float) : Type 0 where
+-- a factor of order n, with work memory for the rows from k on of one right-hand side; k may be n where both are 0
+pub record Checked (layout : Layout) (n b k : ℕ) (matrix work : List Float) : Type 0 where
   pub order : n ≤ maxOrder
   pub block : T (byBlocks (Solver layout)) → 1 ≤ b
+  pub before : k ≤ n
+  pub inside : 0 < k → k < n
   pub matrixLength : length matrix ≡ triangle n
-  pub workLength : length work ≡ n
+  pub workLength : length work ≡ n - k
 
-abbrev pub factorOf : Layout → ℕ → ℕ → List Float → Triangle
-factorOf layout n b matrix = load (placeOf layout n b) (height n) n matrix
+-- its trailing triangle from column k on
+abbrev pub factorOf : Layout → ℕ → ℕ → ℕ → List Float → Triangle
+factorOf layout n b k matrix = loadFrom k (placeOf layout n b) n matrix
 
 -- all y and all x are finite
 abbrev pub passes : ℕ → Triangle → List Float → Bool

@@ -1,5 +1,5 @@
--- What is promised of one block column in a substitution, or of a run of them. Rows and columns count from its first; h is the number of its rows and
--- w that of its columns, and its first w rows are its triangle. `coefficient r s` is the factor's entry in row r and column s.
+-- What is promised of one block column in a substitution, or of a run of them. Rows and columns count from its first that is not left out; h is the
+-- number of its rows and w that of its columns, and its first w rows are its triangle. `coefficient r s` is the factor's entry in row r and column s.
 use Prim.Native.Nat.{ℕ, _+_, _-_, _*_, _≤_, _<_}
 use mathlib.Core.Path.{_≡_}
 use mathlib.Core.Logic.{_⊎_}
@@ -7,22 +7,42 @@ use mathlib.Core.List.{List}
 use lib.ListN.{length, getD}
 use lib.Ieee.{Float, nan, binary64, sub, mul, div}
 use Rattle.shape.specs.Bounds.{maxOrder}
-use Rattle.shape.specs.Places.{triangle, blockOf, blockStart, width}
+use Rattle.shape.specs.Places.{triangle, blockOf, blockStart, width, placeInBlock}
+use Rattle.calls.specs.Triangles.{placeFrom}
 use Rattle.calls.specs.Arithmetic.{minusProducts}
 use Rattle.kernels.specs.declared.tiles.Run.{Run}
 use Rattle.kernels.specs.Kernels.{Scattered}
+use Rattle.solve.specs.declared.blocked.Trailing.{Trailing}
 
 -- the entries that a memory holds at the places of a layout
 abbrev pub entriesAt : (ℕ → ℕ → ℕ) → List Float → ℕ → ℕ → Float
 entriesAt place memory r s = getD memory (place r s) nan
 
 -- a block column of blocked memory and the right-hand side's rows beside it
-pub record BlockColumn (h w : ℕ) (part work : List Float) : Type 0 where
-  pub order : h ≤ maxOrder
-  pub columns : 0 < w
-  pub fits : w ≤ h
-  pub values : blockStart h w ≤ length part
-  pub rows : length work ≡ h
+pub record BlockColumn (block : Trailing) (part work : List Float) : Type 0 where
+  pub order : block .skip + block .h ≤ maxOrder
+  pub columns : 0 < block .w
+  pub fits : block .w ≤ block .h
+  pub values : blockStart (block .skip + block .h) (block .skip + block .w) ≤ length part
+  pub rows : length work ≡ block .h
+
+-- its entries: the part begins with the whole block column
+abbrev pub blockEntries : Trailing → List Float → ℕ → ℕ → Float
+blockEntries block part = entriesAt (placeFrom (block .skip) (placeInBlock (block .skip + block .w))) part
+
+-- what is left, from column k on, of the block column that holds it
+pub record TrailingOf (n b k : ℕ) (block : Trailing) : Type 0 where
+  pub skip : blockOf b k + block .skip ≡ k
+  pub h : block .h ≡ n - k
+  pub w : block .skip + block .w ≡ width n b (blockOf b k)
+
+-- a factor in blocked memory, and the right-hand side's rows from k on
+pub record BlocksFrom (n b k : ℕ) (matrix work : List Float) : Type 0 where
+  pub order : n ≤ maxOrder
+  pub block : 0 < b
+  pub before : k ≤ n
+  pub values : length matrix ≡ triangle n
+  pub rows : length work ≡ n - k
 
 -- the first `rows` rows of a factor in blocked memory, which end with a block column, and the right-hand side's rows beside them
 pub record BlockRows (n b rows : ℕ) (matrix work : List Float) : Type 0 where

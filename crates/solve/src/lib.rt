@@ -1,4 +1,5 @@
-// The two solvers: each right-hand side is solved in work memory by two substitutions, on a packed factor (plain) or on a blocked one.
+// The two solvers: each right-hand side is solved in work memory by two substitutions, on a packed factor (plain) or on a blocked one. The substitutions
+// are public for the calls that need only a part of a solution.
 ghost use Rattle.calls.specs.declared.Layout.the-variants.{Packed, Blocked};
 ghost use Rattle.calls.specs.Calls as Calls;
 ghost use Rattle.calls.specs.Calls.{SolvedAs};
@@ -10,6 +11,7 @@ mod runs;
 
 use calls::CallResult;
 use calls::Layout;
+pub use rhs::substitute;
 use shape::Shape;
 
 pub fn solve_plain(

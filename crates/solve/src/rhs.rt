@@ -1,6 +1,6 @@
-// One right-hand side and all of them, on a factor in either layout.
+// One right-hand side and all of them, on a factor in either layout; both substitutions on its trailing triangle too.
 ghost use mathlib.Core.Path.{_≡_};
-ghost use Prim.Native.Nat.{_*_};
+ghost use Prim.Native.Nat.{_-_, _*_};
 ghost use lib.ListN.{length, replicate};
 ghost use Rattle.binary64.specs.Kinds.{zero64};
 ghost use Rattle.calls.specs.Arithmetic as Arithmetic;
@@ -15,38 +15,43 @@ use calls::Layout;
 use calls::Verdict;
 use shape::Shape;
 
-fn forward(layout: Layout, shape: Shape, matrix: &[f64], work: &mut [f64])
-    requires { ⌜ Checked layout (shape .order) (shape .block) (now matrix) (now work) ⌝ }
-    ensures { λ _. ⌜ now (work .exit) ≡ Arithmetic.forward (shape .order) (factorOf layout (shape .order) (shape .block) (now (matrix .entry))) (now (work .entry)) ⌝ }
+// On the trailing triangle from column k on. In packed memory it is packed too; a block column begins at the same place as its first column there.
+fn forward(layout: Layout, shape: Shape, k: usize, matrix: &[f64], work: &mut [f64])
+    requires { ⌜ Checked layout (shape .order) (shape .block) k (now matrix) (now work) ⌝ }
+    ensures { λ _. ⌜ now (work .exit) ≡ Arithmetic.forward (shape .order - k) (factorOf layout (shape .order) (shape .block) k (now (matrix .entry))) (now (work .entry)) ⌝ }
 {
-    let n = shape.order;
     match layout {
-        Layout::Packed => plain::forward(n, matrix, work),
-        Layout::Blocked => blocked::forward(shape, matrix, work),
+        Layout::Packed => {
+            let at = shape.block_start(k);
+            plain::forward(shape.order - k, &matrix[at..], work);
+        }
+        Layout::Blocked => blocked::forward_from(shape, k, matrix, work),
     }
 }
 
-fn backward(layout: Layout, shape: Shape, matrix: &[f64], work: &mut [f64])
-    requires { ⌜ Checked layout (shape .order) (shape .block) (now matrix) (now work) ⌝ }
-    ensures { λ _. ⌜ now (work .exit) ≡ Arithmetic.backward (shape .order) (factorOf layout (shape .order) (shape .block) (now (matrix .entry))) (now (work .entry)) ⌝ }
+fn backward(layout: Layout, shape: Shape, k: usize, matrix: &[f64], work: &mut [f64])
+    requires { ⌜ Checked layout (shape .order) (shape .block) k (now matrix) (now work) ⌝ }
+    ensures { λ _. ⌜ now (work .exit) ≡ Arithmetic.backward (shape .order - k) (factorOf layout (shape .order) (shape .block) k (now (matrix .entry))) (now (work .entry)) ⌝ }
 {
-    let n = shape.order;
     match layout {
-        Layout::Packed => plain::backward(n, matrix, work),
-        Layout::Blocked => blocked::backward(shape, matrix, work),
+        Layout::Packed => {
+            let at = shape.block_start(k);
+            plain::backward(shape.order - k, &matrix[at..], work);
+        }
+        Layout::Blocked => blocked::backward_from(shape, k, matrix, work),
     }
 }
 
-// Both substitutions, and whether every y and x is finite.
-fn substitute(layout: Layout, shape: Shape, matrix: &[f64], work: &mut [f64]) -> bool
-    requires { ⌜ Checked layout (shape .order) (shape .block) (now matrix) (now work) ⌝ }
-    ensures { λ r. ⌜ Substituted (shape .order) (factorOf layout (shape .order) (shape .block) (now (matrix .entry))) (now (work .entry)) r (now (work .exit)) ⌝ }
+// Both substitutions on the trailing triangle, and whether every y and x is finite.
+pub fn substitute(layout: Layout, shape: Shape, k: usize, matrix: &[f64], work: &mut [f64]) -> bool
+    requires { ⌜ Checked layout (shape .order) (shape .block) k (now matrix) (now work) ⌝ }
+    ensures { λ r. ⌜ Substituted (shape .order - k) (factorOf layout (shape .order) (shape .block) k (now (matrix .entry))) (now (work .entry)) r (now (work .exit)) ⌝ }
 {
-    forward(layout, shape, matrix, work);
+    forward(layout, shape, k, matrix, work);
     if !checks::all_finite(work) {
         return false;
     }
-    backward(layout, shape, matrix, work);
+    backward(layout, shape, k, matrix, work);
     checks::all_finite(work)
 }
 
@@ -58,12 +63,12 @@ fn solve_one(
     rhs: &mut [f64],
     work: &mut [f64],
 ) -> bool
-    requires { ⌜ Checked layout (shape .order) (shape .block) (now matrix) (now work) ⌝ }
+    requires { ⌜ Checked layout (shape .order) (shape .block) 0 (now matrix) (now work) ⌝ }
     requires { ⌜ length (now rhs) ≡ shape .order ⌝ }
-    ensures { λ r. ⌜ RhsSolved (shape .order) (factorOf layout (shape .order) (shape .block) (now (matrix .entry))) (now (rhs .entry)) r (now (rhs .exit)) ⌝ }
+    ensures { λ r. ⌜ RhsSolved (shape .order) (factorOf layout (shape .order) (shape .block) 0 (now (matrix .entry))) (now (rhs .entry)) r (now (rhs .exit)) ⌝ }
 {
     kernels::copy(rhs, work);
-    if !substitute(layout, shape, matrix, work) {
+    if !substitute(layout, shape, 0, matrix, work) {
         return false;
     }
     kernels::copy(work, rhs);
@@ -79,9 +84,9 @@ fn solve_all(
     rhs: &mut [f64],
     work: &mut [f64],
 ) -> Verdict
-    requires { ⌜ Checked layout (shape .order) (shape .block) (now matrix) (now work) ⌝ }
+    requires { ⌜ Checked layout (shape .order) (shape .block) 0 (now matrix) (now work) ⌝ }
     requires { ⌜ length (now rhs) ≡ shape .order * m ⌝ }
-    ensures { λ r. ⌜ AllSolved (shape .order) m (factorOf layout (shape .order) (shape .block) (now (matrix .entry))) (now (rhs .entry)) r (now (rhs .exit)) ⌝ }
+    ensures { λ r. ⌜ AllSolved (shape .order) m (factorOf layout (shape .order) (shape .block) 0 (now (matrix .entry))) (now (rhs .entry)) r (now (rhs .exit)) ⌝ }
 {
     let n = shape.order;
     let mut from = 0;
@@ -106,9 +111,9 @@ fn solve_cleared(
     rhs: &mut [f64],
     work: &mut [f64],
 ) -> Verdict
-    requires { ⌜ Checked layout (shape .order) (shape .block) (now matrix) (now work) ⌝ }
+    requires { ⌜ Checked layout (shape .order) (shape .block) 0 (now matrix) (now work) ⌝ }
     requires { ⌜ length (now rhs) ≡ shape .order * m ⌝ }
-    ensures { λ r. ⌜ AllSolved (shape .order) m (factorOf layout (shape .order) (shape .block) (now (matrix .entry))) (now (rhs .entry)) r (now (rhs .exit)) ⌝ }
+    ensures { λ r. ⌜ AllSolved (shape .order) m (factorOf layout (shape .order) (shape .block) 0 (now (matrix .entry))) (now (rhs .entry)) r (now (rhs .exit)) ⌝ }
     ensures { λ _. ⌜ now (work .exit) ≡ replicate (shape .order) zero64 ⌝ }
 {
     let result = solve_all(layout, shape, m, matrix, rhs, work);

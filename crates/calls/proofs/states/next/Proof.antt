@@ -34,6 +34,12 @@ enum-known-call-3 c = search needs
 row-requires-3 : tie.Need-row-requires-3
 row-requires-3 c κs = search needs
 
+enum-known-call-4 : tie.Need-enum-known-call-4
+enum-known-call-4 c = search needs
+
+row-requires-4 : tie.Need-row-requires-4
+row-requires-4 c κs = search needs
+
 returns-2 : tie.Need-returns-2
 unfolding lookUp
 returns-2 c =
@@ -47,6 +53,9 @@ returns-3 c = rw (c .before .before .call2 .given .1) (c .row2 .ensures)
 returns-4 : tie.Need-returns-4
 returns-4 c = rw (c .before .before .call3 .given .1) (c .row3 .ensures)
 
+returns-5 : tie.Need-returns-5
+returns-5 c = rw (c .before .before .call4 .given .1) (c .row4 .ensures)
+
 pub next-spec : {M : Type 1} → statement M
 next-spec =
     tie.close
@@ -59,6 +68,9 @@ next-spec =
     row-requires-2
     enum-known-call-3
     row-requires-3
+    enum-known-call-4
+    row-requires-4
     returns-2
     returns-3
-    returns-4)
+    returns-4
+    returns-5)

@@ -1,4 +1,4 @@
--- `checks::rules::check_diagonal` meets its contract. The loop's invariant: no column before j refuses. The measure is the number of columns left.
+-- `checks::rules::check_diagonal` meets its contract. The loop's invariant: no column from k on and before j refuses. The measure is the number of columns left.
 -- Each place read is below the triangle's length, as both layouts are bijections. Assumes nothing.
 use Prim.Native.Nat.{ℕ, _+_, _-_, _≤_, _<_}
 use native.Mathlib.Omega.{arith}
@@ -12,9 +12,10 @@ use lib.ListN.{length, getD}
 use lib.Ieee.{Float, nan, ofBits}
 use Rattle.binary64.specs.Kinds.{positive, zero64}
 use Rattle.shape.specs.Layouts.{Entry}
+use Rattle.calls.specs.declared.Verdict.{Verdict}
 use Rattle.calls.specs.declared.Call.the-variants.{Solver}
 use Rattle.calls.specs.Triangles.{placeOf}
-use Rattle.calls.specs.Refusals.{success, refusal, lowestRefusal, byBlocks, rule9}
+use Rattle.calls.specs.Refusals.{success, accepted, refusal, lowestRefusal, byBlocks, rule9}
 use Rattle.calls.proofs.Judging.{lowest-next, lowest-found}
 use Rattle.calls.proofs.Rearranging.{place-bijection}
 use Rattle.calls.proofs.CheckLaws.{positiveAt}
@@ -26,26 +27,41 @@ on-diagonal n j h = record { lower = omega arith; inside = h }
 
 -- ---- a turn
 
-module _ (place : ℕ → ℕ → ℕ) (matrix : List Float) (j : ℕ) (before : lowestRefusal (positiveAt place matrix) j ≡ success) where
-  positive-next : positive (getD matrix (place j j) nan) ≡ true → lowestRefusal (positiveAt place matrix) (j + 1) ≡ success
-  positive-next f = lowest-next (positiveAt place matrix) j before ∙ rw f
+-- column k + c, judged after the c columns before it
+abbrev from : (ℕ → ℕ → ℕ) → List Float → ℕ → ℕ → Verdict
+from place matrix k c = positiveAt place matrix (k + c)
 
-  positive-found : (n : ℕ) → j < n → positive (getD matrix (place j j) nan) ≡ false → rule9 place n matrix ≡ refusal 9 j zero64
+module _ (place : ℕ → ℕ → ℕ) (matrix : List Float) (k j : ℕ) (low : k ≤ j) (before : lowestRefusal (from place matrix k) (j - k) ≡ success) where
+  here : k + (j - k) ≡ j
+  here = omega arith
+
+  positive-next : positive (getD matrix (place j j) nan) ≡ true → lowestRefusal (from place matrix k) (j + 1 - k) ≡ success
+  positive-next f =
+      let next : j - k + 1 ≡ j + 1 - k = omega arith in
+      let judged : from place matrix k (j - k) ≡ success = rw (here, f) refl in
+      rw next at (lowest-next (from place matrix k) (j - k) before ∙ judged)
+
+  positive-found : (n : ℕ) → j < n → positive (getD matrix (place j j) nan) ≡ false → rule9 place k n matrix ≡ refusal 9 j zero64
   unfolding rule9
-  positive-found n h f = lowest-found (positiveAt place matrix) j n h before (rw f) ∙ rw f
+  positive-found n h f =
+      let judged : from place matrix k (j - k) ≡ refusal 9 j zero64 = rw (here, f) refl in
+      lowest-found (from place matrix k) (j - k) (n - k) (omega arith) before (ap accepted judged) ∙ judged
 
 -- ---- the loop
 
 abbrev Inv-loop : tie.InvT-loop
-Inv-loop layout shape matrix j₀ j =
-    (j ≤ shape .order) × (lowestRefusal (positiveAt (placeOf layout (shape .order) (shape .block)) matrix) j ≡ success)
+Inv-loop layout shape k matrix j₀ j =
+    (k ≤ j) × (j ≤ shape .order) × (lowestRefusal (from (placeOf layout (shape .order) (shape .block)) matrix k) (j - k) ≡ success)
 
 abbrev μ-loop : tie.MeasureT-loop
-μ-loop layout shape matrix j₀ j = shape .order - j
+μ-loop layout shape k matrix j₀ j = shape .order - j
 
 loop-holds : tie.Need-loop-holds Inv-loop μ-loop
 unfolding lowestRefusal
-loop-holds c = (omega arith, refl)
+loop-holds c =
+    let k = c .before .args .k in
+    let none : k - k ≡ 0 = omega arith in
+    (omega arith, omega arith, rw none refl)
 
 place-of-requires : tie.Need-place-of-requires Inv-loop μ-loop
 place-of-requires c κs =
@@ -59,7 +75,7 @@ inside c =
     let j = c .before .before .before .loop .j in
     let blocks = start .pre .1 .0 in
     let bijection = place-bijection (start .args .layout) n (start .args .shape .block) (λ e. blocks (subst (λ l. T (byBlocks (Solver l))) (sym e) tt)) in
-    omega (arith, c .place-of .ensures, bijection .below j j (on-diagonal n j (c .before .if1 .taken)), start .pre .1 .1)
+    omega (arith, c .place-of .ensures, bijection .below j j (on-diagonal n j (c .before .if1 .taken)), start .pre .1 .1 .1)
 
 mul-if2 : tie.Need-mul-if2 Inv-loop μ-loop
 mul-if2 c = omega (arith, inside c)
@@ -81,7 +97,7 @@ returns c =
     let here : positive (getD matrix (place (loop .j) (loop .j)) nan) ≡ false =
     sym (ap (λ (p : ℕ). positive (getD matrix p nan)) (c .before .before .before .place-of .ensures)) ∙ not-true _ (c .before .if2 .taken)
     in
-    c .refusal .ensures ∙ sym (positive-found place matrix (loop .j) (loop .inv .1) n (c .before .before .before .before .if1 .taken) here)
+    c .refusal .ensures ∙ sym (positive-found place matrix (start .args .k) (loop .j) (loop .inv .0) (loop .inv .2) n (c .before .before .before .before .if1 .taken) here)
 
 add-j : tie.Need-add-j Inv-loop μ-loop
 add-j c = omega arith
@@ -99,7 +115,7 @@ loop-again c =
     let here : positive (getD matrix (place (loop .j) (loop .j)) nan) ≡ true =
     sym (ap (λ (p : ℕ). positive (getD matrix p nan)) (c .before .before .place-of .ensures)) ∙ not-false _ (c .if2 .left)
     in
-    (omega arith, positive-next place matrix (loop .j) (loop .inv .1) here)
+    (omega arith, omega arith, positive-next place matrix (start .args .k) (loop .j) (loop .inv .0) (loop .inv .2) here)
 
 refusal-requires-2 : tie.Need-refusal-requires-2 Inv-loop μ-loop
 refusal-requires-2 c κs = search needs
@@ -110,7 +126,7 @@ returns-2 c =
     let loop = c .before .before .before .loop in
     let shape = c .before .before .before .before .before .args .shape in
     let end : loop .j ≡ shape .order = omega arith in
-    c .refusal2 .ensures ∙ sym (rw end at (loop .inv .1))
+    c .refusal2 .ensures ∙ sym (rw end at (loop .inv .2))
 
 pub check-diagonal-spec : {M : Type 1} → statement M
 check-diagonal-spec =

@@ -1,5 +1,6 @@
 -- `checks::rules::check_solver` meets its contract: the rules are judged in five parts, and the first part that refuses decides. What the later parts
 -- require, the rules of the sizes have settled. Assumes nothing.
+use native.Mathlib.Omega.{arith}
 use mathlib.Core.Path.{_≡_, sym, _∙_}
 use mathlib.Core.Bool.{true}
 use mathlib.Core.List.{List, [], _∷_, _++_}
@@ -34,7 +35,7 @@ abbrev rhsValues : tie.Start → List Verdict
 rhsValues s = rule8 (s .args .rhs .now) ∷ []
 
 abbrev diagonal : tie.Start → List Verdict
-diagonal s = rule9 (placeOf (s .args .layout) (s .args .shape .order) (s .args .shape .block)) (s .args .shape .order) (s .args .matrix .now) ∷ []
+diagonal s = rule9 (placeOf (s .args .layout) (s .args .shape .order) (s .args .shape .block)) 0 (s .args .shape .order) (s .args .matrix .now) ∷ []
 
 -- ---- what is left to judge once a part has passed
 
@@ -155,14 +156,14 @@ returns-4 c =
 check-diagonal-requires : tie.Need-check-diagonal-requires
 check-diagonal-requires c κs =
     let known = settled (c .before .before .before .before .before .before .before .before .before) in
-    (known .order, (known .blockLow, known .matrix))
+    (known .order, (known .blockLow, (omega arith, known .matrix)))
 
 returns-5 : tie.Need-returns-5
 returns-5 c =
     let s = c .before .before .before .before .before .before .before .before .before .before .before .before .before .before .before in
     let n = s .args .shape .order in
     c .check-diagonal .ensures
-    ∙ sym (rule9-alone (placeOf (s .args .layout) n (s .args .shape .block)) n (s .args .matrix .now))
+    ∙ sym (rule9-alone (placeOf (s .args .layout) n (s .args .shape .block)) 0 n (s .args .matrix .now))
     ∙ sym (past-rhs-values (c .before))
 
 pub check-solver-spec : {M : Type 1} → statement M

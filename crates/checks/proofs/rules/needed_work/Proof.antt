@@ -24,6 +24,9 @@ block-work-requires-2 c κs = search needs
 enum-told-4 : tie.Need-enum-told-4
 enum-told-4 c = search needs
 
+enum-told-5 : tie.Need-enum-told-5
+enum-told-5 c = search needs
+
 returns : tie.Need-returns
 returns c = rw (c .before .enum-told .given .1) (c .block-work .ensures)
 
@@ -36,6 +39,9 @@ returns-3 c = rw (c .before .before .before .before .call .given .1, c .before .
 returns-4 : tie.Need-returns-4
 returns-4 c = search needs
 
+returns-5 : tie.Need-returns-5
+returns-5 c = search needs
+
 pub needed-work-spec : {M : Type 1} → statement M
 needed-work-spec =
     tie.close
@@ -47,7 +53,9 @@ needed-work-spec =
     enum-told-3
     block-work-requires-2
     enum-told-4
+    enum-told-5
     returns
     returns-2
     returns-3
-    returns-4)
+    returns-4
+    returns-5)

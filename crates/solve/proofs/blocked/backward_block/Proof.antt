@@ -18,7 +18,7 @@ returns : tie.Need-returns
 returns c =
     let a = c .before .before .before .before .before .before .before .before .before .before .args in
     let p = c .before .before .before .before .before .before .before .before .before .before .pre in
-    backward-done _ (a .h) (a .w) (now (a .work)) _ _ (p .fits) (c .before .before .before .before .before .before .backward-rows .ensures)
+    backward-done _ (a .block .h) (a .block .w) (now (a .work)) _ _ (p .fits) (c .before .before .before .before .before .before .backward-rows .ensures)
     (c .before .before .backward-triangle .ensures)
 
 pub backward-block-spec : {M : Type 1} → statement M

@@ -1,5 +1,6 @@
 -- `solve::blocked::backward_blocks` meets its contract. The invariant of its loop: the substitution has come to c, a block column's end. Assumes nothing.
 use Prim.Native.Nat.{_+_, _-_, _≤_, _<_}
+use native.Mathlib.Nat.{zero-add}
 use native.Mathlib.Omega.{arith}
 use mathlib.Core.Path.{_≡_, sym, ap, _∙_}
 use mathlib.Core.Logic.{inr}
@@ -103,7 +104,7 @@ backward-block-requires c κs =
       order = omega arith;
       columns = omega (arith, block-width .ensures, width-pos n b f (omega arith) (omega arith));
       fits = omega arith;
-      values = simp (length-take, length-drop) (omega
+      values = simp (zero-add, length-take, length-drop) (omega
           (arith, c .before .before .before .block-start .ensures, block-rows-room n (a .rows) f (block-width .result) (omega arith) (omega arith)));
       rows = simp (length-take, length-drop) (omega (arith, l .inv .2 .size));
     }
@@ -127,7 +128,7 @@ loop-again c =
     let first : blockOf b f ≡ f = ap (blockOf b) (block-of .ensures) ∙ block-of-block b (l .c - 1) (omega arith) ∙ sym (block-of .ensures) in (
       omega arith,
       inr first,
-      block-backward n b (a .rows) f (block-start .result) (block-width .result) (now (a .matrix)) (now (a .work)) (l .work) (backward-block .last .1 .1 .1 .0)
+      block-backward n b (a .rows) f (block-start .result) (block-width .result) (now (a .matrix)) (now (a .work)) (l .work) (backward-block .last .1 .1 .0)
           (omega arith) (omega arith) first (block-start .ensures) (block-width .ensures) (omega arith) (rw whole (l .inv .2))
           (backward-block .ensures),
     )

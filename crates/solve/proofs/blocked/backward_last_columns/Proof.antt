@@ -3,18 +3,17 @@ use Prim.Native.Nat.{_-_, _≤_}
 use native.Mathlib.Omega.{arith}
 use mathlib.Core.Path.{_≡_}
 use denote.Ref.{now}
-use Rattle.shape.specs.Places.{placeInBlock}
-use Rattle.solve.specs.Substitution.{entriesAt, ColumnsSubtracted}
+use Rattle.solve.specs.Substitution.{blockEntries, ColumnsSubtracted}
 use Rattle.solve.proofs.Rows.{columns-none, columns-next}
 use Rattle.solve.proofs.BlockColumns.{rows-beside}
 use Rattle.solve.proofs.blocked.backward_last_columns.Statement.{statement}
 use Rattle.solve.proofs.blocked.backward_last_columns.Tie as tie
 
 abbrev Inv-loop : tie.InvT-loop
-Inv-loop h w from first end part work₀ rows k₀ work k = (k ≤ rows) × ColumnsSubtracted (entriesAt (placeInBlock w) part) end k from w work₀ work
+Inv-loop block from first end part work₀ rows k₀ work k = (k ≤ rows) × ColumnsSubtracted (blockEntries block part) end k from (block .w) work₀ work
 
 abbrev μ-loop : tie.MeasureT-loop
-μ-loop h w from first end part work₀ rows k₀ work k = rows - k
+μ-loop block from first end part work₀ rows k₀ work k = rows - k
 
 sub-rows : tie.Need-sub-rows Inv-loop μ-loop
 sub-rows c = omega arith
@@ -22,7 +21,7 @@ sub-rows c = omega arith
 loop-holds : tie.Need-loop-holds Inv-loop μ-loop
 loop-holds c =
     let a = c .before .before .args in
-    (omega arith, columns-none (entriesAt (placeInBlock (a .w)) (now (a .part))) (a .end) (a .from) (a .w) (now (a .work)))
+    (omega arith, columns-none (blockEntries (a .block) (now (a .part))) (a .end) (a .from) (a .block .w) (now (a .work)))
 
 sub-backward-row : tie.Need-sub-backward-row Inv-loop μ-loop
 sub-backward-row c = omega arith
@@ -35,7 +34,7 @@ backward-row-requires c κs =
     let p = c .before .before .before .before .before .pre in
     let a = c .before .before .before .before .before .args in
     let l = c .before .before .loop in
-    (rows-beside (a .h) (a .w) (now (a .part)) (now (a .work)) (l .work) (p .0) (l .inv .1 .size), (omega arith, (omega arith, omega arith)))
+    (rows-beside (a .block) (now (a .part)) (now (a .work)) (l .work) (p .0) (l .inv .1 .size), (omega arith, (omega arith, omega arith)))
 
 add-k : tie.Need-add-k Inv-loop μ-loop
 add-k c = omega arith
@@ -48,7 +47,7 @@ loop-again c =
     let a = c .before .before .before .before .before .before .before .before .args in
     let l = c .before .before .before .before .before .loop in (
       omega arith,
-      columns-next (entriesAt (placeInBlock (a .w)) (now (a .part))) (a .end) (l .k) (a .from) (a .w) (now (a .work)) (l .work) _
+      columns-next (blockEntries (a .block) (now (a .part))) (a .end) (l .k) (a .from) (a .block .w) (now (a .work)) (l .work) _
           (omega arith) (l .inv .1) (c .before .before .backward-row .ensures),
     )
 

@@ -5,11 +5,19 @@ use borrow.Author.Needs.{needs}
 use denote.Ref.{now}
 use lib.ListN.{getD}
 use lib.Ieee.{nan}
-use Rattle.shape.specs.Places.{blockStart}
-use Rattle.solve.proofs.BlockPlaces.{room-part, values-le}
+use Rattle.solve.proofs.BlockPlaces.{room, room-part, values-le}
 use Rattle.solve.proofs.BlockColumns.{row-under}
 use Rattle.solve.proofs.blocked.backward_row.Statement.{statement}
 use Rattle.solve.proofs.blocked.backward_row.Tie as tie
+
+add-place-in-block : tie.Need-add-place-in-block
+add-place-in-block c = search needs
+
+add-place-in-block-2 : tie.Need-add-place-in-block-2
+add-place-in-block-2 c = search needs
+
+add-place-in-block-3 : tie.Need-add-place-in-block-3
+add-place-in-block-3 c = search needs
 
 place-in-block-requires : tie.Need-place-in-block-requires
 place-in-block-requires c κs = search needs
@@ -17,10 +25,10 @@ place-in-block-requires c κs = search needs
 -- the part of the row lies in the block column
 inside : (c : tie.After-place-in-block)
     → let a = c .before .before .before .args in
-    c .place-in-block .result + (a .w - a .from) ≤ blockStart (a .h) (a .w)
+    c .place-in-block .result + (a .block .w - a .from) ≤ room (a .block)
 inside c =
     let a = c .before .before .before .args in
-    omega (arith, room-part (a .h) (a .w) (a .r) (a .from) (a .w - a .from) (omega arith) (omega arith) (omega arith) (omega arith) (omega arith))
+    omega (arith, room-part (a .block) (a .r) (a .from) (a .block .w - a .from) (omega arith) (omega arith) (omega arith) (omega arith) (omega arith))
 
 sub-end : tie.Need-sub-end
 sub-end c = search needs
@@ -28,7 +36,7 @@ sub-end c = search needs
 add-end : tie.Need-add-end
 add-end c =
     let a = c .before .before .before .args in
-    omega (arith, inside c, values-le (a .h) (a .w) (omega arith) (omega arith))
+    omega (arith, inside c, values-le (a .block) (omega arith) (omega arith))
 
 mul-x : tie.Need-mul-x
 mul-x c = search needs
@@ -71,13 +79,16 @@ returns c =
     let subtract-multiple = c .before .before .subtract-multiple in
     let a = c .before .before .before .before .before .before .before .before .before .args in
     let at = c .before .before .before .before .before .before .place-in-block in
-    row-under (a .w) (a .r) (a .from) (at .result) (now (a .part)) (now (a .work)) (subtract-multiple .last .0) (getD (now (a .work)) (a .r) nan)
+    row-under (a .block) (a .r) (a .from) (at .result) (now (a .part)) (now (a .work)) (subtract-multiple .last .0) (getD (now (a .work)) (a .r) nan)
     (omega arith) (omega arith) (at .ensures) (subtract-multiple .ensures)
 
 pub backward-row-spec : {M : Type 1} → statement M
 backward-row-spec =
     tie.close
     (tie.spec
+    add-place-in-block
+    add-place-in-block-2
+    add-place-in-block-3
     place-in-block-requires
     sub-end
     add-end

@@ -3,18 +3,17 @@ use Prim.Native.Nat.{_+_, _-_, _≤_}
 use native.Mathlib.Omega.{arith}
 use mathlib.Core.Path.{_≡_, _∙_}
 use denote.Ref.{now}
-use Rattle.shape.specs.Places.{placeInBlock}
-use Rattle.solve.specs.Substitution.{entriesAt, ColumnsSubtracted}
+use Rattle.solve.specs.Substitution.{blockEntries, ColumnsSubtracted}
 use Rattle.solve.proofs.BlockColumns.{rows-beside}
 use Rattle.solve.proofs.Rows.{replaced-none, columns-join}
 use Rattle.solve.proofs.blocked.backward_tile.Statement.{statement}
 use Rattle.solve.proofs.blocked.backward_tile.Tie as tie
 
 abbrev Inv-loop : tie.InvT-loop
-Inv-loop h w first end part work₀ s₀ work s = (s ≤ w) × ColumnsSubtracted (entriesAt (placeInBlock w) part) end (end - first) 0 s work₀ work
+Inv-loop block first end part work₀ w s₀ work s = (s ≤ block .w) × ColumnsSubtracted (blockEntries block part) end (end - first) 0 s work₀ work
 
 abbrev μ-loop : tie.MeasureT-loop
-μ-loop h w first end part work₀ s₀ work s = w - s
+μ-loop block first end part work₀ w s₀ work s = block .w - s
 
 loop-holds : tie.Need-loop-holds Inv-loop μ-loop
 loop-holds c = (omega arith, replaced-none _ 0 (now (c .before .before .args .work)))
@@ -27,7 +26,7 @@ backward-columns16-requires c κs =
     let p = c .before .before .before .before .before .pre in
     let a = c .before .before .before .before .before .args in
     let l = c .before .before .loop in
-    (rows-beside (a .h) (a .w) (now (a .part)) (now (a .work)) (l .work) (p .0) (l .inv .1 .size), omega arith)
+    (rows-beside (a .block) (now (a .part)) (now (a .work)) (l .work) (p .0) (l .inv .1 .size), omega arith)
 
 add-s : tie.Need-add-s Inv-loop μ-loop
 add-s c = omega arith
@@ -40,7 +39,7 @@ loop-again c =
     let a = c .before .before .before .before .before .before .before .before .args in
     let l = c .before .before .before .before .before .loop in (
       omega arith,
-      columns-join (entriesAt (placeInBlock (a .w)) (now (a .part))) (a .end) (a .end - a .first) 0 (l .s) (l .s + 16) (now (a .work)) (l .work) _
+      columns-join (blockEntries (a .block) (now (a .part))) (a .end) (a .end - a .first) 0 (l .s) (l .s + 16) (now (a .work)) (l .work) _
           (omega arith) (omega arith) (omega arith) (l .inv .1) (c .before .before .backward-columns16 .ensures),
     )
 
@@ -49,7 +48,7 @@ backward-last-columns-requires c κs =
     let p = c .before .before .before .before .before .before .pre in
     let a = c .before .before .before .before .before .before .args in
     let l = c .before .before .before .loop in
-    (rows-beside (a .h) (a .w) (now (a .part)) (now (a .work)) (l .work) (p .0) (l .inv .1 .size), omega arith)
+    (rows-beside (a .block) (now (a .part)) (now (a .work)) (l .work) (p .0) (l .inv .1 .size), omega arith)
 
 same-length : tie.Need-same-length Inv-loop μ-loop
 same-length c = c .before .before .backward-last-columns .ensures .size ∙ c .before .before .before .before .before .before .loop .inv .1 .size
@@ -58,7 +57,7 @@ returns : tie.Need-returns Inv-loop μ-loop
 returns c =
     let a = c .before .before .before .before .before .before .before .before .before .args in
     let l = c .before .before .before .before .before .before .loop in
-    columns-join (entriesAt (placeInBlock (a .w)) (now (a .part))) (a .end) (a .end - a .first) 0 (l .s) (a .w) (now (a .work)) (l .work) _
+    columns-join (blockEntries (a .block) (now (a .part))) (a .end) (a .end - a .first) 0 (l .s) (a .block .w) (now (a .work)) (l .work) _
     (omega arith) (omega arith) (omega arith) (l .inv .1) (c .before .before .backward-last-columns .ensures)
 
 same-length-2 : tie.Need-same-length-2 Inv-loop μ-loop
@@ -66,7 +65,7 @@ same-length-2 c = c .before .before .loop .inv .1 .size
 
 returns-2 : tie.Need-returns-2 Inv-loop μ-loop
 returns-2 c =
-    let end : c .before .before .loop .s ≡ c .before .before .before .before .before .args .w = omega arith in
+    let end : c .before .before .loop .s ≡ c .before .before .before .before .before .args .block .w = omega arith in
     rw end at (c .before .before .loop .inv .1)
 
 pub backward-tile-spec : {M : Type 1} → statement M

@@ -5,19 +5,28 @@ use native.Mathlib.Omega.{arith}
 use mathlib.Core.Path.{_≡_, refl}
 use denote.Ref.{now}
 use lib.ListN.{length-set, length-take, length-drop}
-use Rattle.shape.specs.Places.{blockStart, placeInBlock}
+use Rattle.shape.specs.Places.{placeInBlock}
+use Rattle.calls.specs.Triangles.{placeFrom}
 use Rattle.solve.specs.Substitution.{entriesAt}
-use Rattle.solve.proofs.BlockPlaces.{before-inside}
+use Rattle.solve.proofs.BlockPlaces.{room, before-inside}
 use Rattle.solve.proofs.BlockColumns.{row-inside-up}
 use Rattle.solve.proofs.Triangles.{TakenFrom, taken-none, taken-all}
 use Rattle.solve.proofs.blocked.backward_triangle.Statement.{statement}
 use Rattle.solve.proofs.blocked.backward_triangle.Tie as tie
 
 abbrev Inv-loop : tie.InvT-loop
-Inv-loop h w part work₀ at₀ r₀ work at r = (r ≤ w) × (at ≡ placeInBlock w r 0) × TakenFrom (entriesAt (placeInBlock w) part) w r work₀ work
+Inv-loop part work₀ skip w at₀ r₀ work at r =
+    (r ≤ w) × (at ≡ placeInBlock (skip + w) (skip + r) skip)
+    × TakenFrom (entriesAt (placeFrom skip (placeInBlock (skip + w))) part) w r work₀ work
 
 abbrev μ-loop : tie.MeasureT-loop
-μ-loop h w part work₀ at₀ r₀ work at r = r
+μ-loop part work₀ skip w at₀ r₀ work at r = r
+
+add-place-in-block : tie.Need-add-place-in-block Inv-loop μ-loop
+add-place-in-block c = omega arith
+
+add-place-in-block-2 : tie.Need-add-place-in-block-2 Inv-loop μ-loop
+add-place-in-block-2 c = omega arith
 
 place-in-block-requires : tie.Need-place-in-block-requires Inv-loop μ-loop
 place-in-block-requires c κs = omega arith
@@ -25,18 +34,21 @@ place-in-block-requires c κs = omega arith
 loop-holds : tie.Need-loop-holds Inv-loop μ-loop
 loop-holds c =
     let a = c .before .before .before .args in
-    (omega arith, c .place-in-block .ensures, taken-none _ (a .w) (now (a .work)))
+    (omega arith, c .place-in-block .ensures, taken-none _ (a .block .w) (now (a .work)))
 
 -- in a turn the row before lies in the block column
 inside : (c : tie.In-loop Inv-loop μ-loop)
     → let a = c .before .before .before .before .before .args in
     let l = c .before .loop in
-    (l .r ≤ l .at) × (l .at - l .r + (l .r - 1) < blockStart (a .h) (a .w))
+    (a .block .skip + l .r ≤ l .at) × (l .at - (a .block .skip + l .r) + (l .r - 1) < room (a .block))
 inside c =
     let a = c .before .before .before .before .before .args in
     let l = c .before .loop in
-    let row = before-inside (a .h) (a .w) (l .r) (l .at) (omega arith) (omega arith) (omega arith) (l .inv .1) in
+    let row = before-inside (a .block) (l .r) (l .at) (omega arith) (omega arith) (omega arith) (l .inv .1) in
     (row .0, row .2)
+
+add-at : tie.Need-add-at Inv-loop μ-loop
+add-at c = omega arith
 
 sub-at : tie.Need-sub-at Inv-loop μ-loop
 sub-at c = omega (arith, inside c)
@@ -96,7 +108,7 @@ loop-again c =
     let l = c .before .before .before .before .before .before .before .before .loop in
     let subtract-multiple = c .before .before .subtract-multiple in
     let test = c .before .before .before .before .before .before .before .loop-test .taken in
-    let turn = row-inside-up (a .h) (a .w) (l .r) (l .at) (now (a .part)) (now (a .work)) (l .work) (subtract-multiple .last .0) _
+    let turn = row-inside-up (a .block) (l .r) (l .at) (now (a .part)) (now (a .work)) (l .work) (subtract-multiple .last .0) _
     (omega arith) (omega arith) test (l .inv .0) (l .inv .1) refl (l .inv .2) (subtract-multiple .ensures) in
     (omega arith, turn .0, turn .1)
 
@@ -108,7 +120,7 @@ returns c =
     let a = c .before .before .before .before .before .args in
     let l = c .before .loop in
     let end : l .r ≡ 0 = omega arith in
-    taken-all _ (a .w) (now (a .work)) (l .work) (rw end at (l .inv .2))
+    taken-all _ (a .block .w) (now (a .work)) (l .work) (rw end at (l .inv .2))
 
 pub backward-triangle-spec : {M : Type 1} → statement M
 backward-triangle-spec =
@@ -116,8 +128,11 @@ backward-triangle-spec =
     (tie.spec
     Inv-loop
     μ-loop
+    add-place-in-block
+    add-place-in-block-2
     place-in-block-requires
     loop-holds
+    add-at
     sub-at
     sub-r
     add-end

@@ -17,7 +17,7 @@ same-length c = search needs
 returns : tie.Need-returns
 returns c =
     let a = c .before .before .before .before .before .before .before .before .before .before .args in
-    forward-done _ (a .h) (a .w) (now (a .work)) _ _ (c .before .before .before .before .before .before .forward-triangle .ensures)
+    forward-done _ (a .block .h) (a .block .w) (now (a .work)) _ _ (c .before .before .before .before .before .before .forward-triangle .ensures)
     (c .before .before .forward-rows .ensures)
 
 pub forward-block-spec : {M : Type 1} → statement M

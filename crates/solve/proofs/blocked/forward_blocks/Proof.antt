@@ -1,15 +1,16 @@
 -- `solve::blocked::forward_blocks` meets its contract. The invariant of its loop: the substitution has come to c, a block column's first. Assumes nothing.
 use Prim.Native.Nat.{_+_, _-_, _≤_, _<_}
+use native.Mathlib.Nat.{zero-add}
 use native.Mathlib.Omega.{arith}
 use mathlib.Core.Path.{_≡_, sym, _∙_}
 use denote.Ref.{now}
 use lib.ListN.{length-take, length-drop}
 use Rattle.shape.specs.Places.{triangle, blockedPlace, blockOf}
 use Rattle.shape.proofs.Bounds.{block-start-le, triangle-le}
-use Rattle.shape.proofs.Blocks.{block-of-le, width-pos}
+use Rattle.shape.proofs.Blocks.{block-of-le, width-pos, first-next}
 use Rattle.calls.specs.Triangles.{height, load}
 use Rattle.solve.proofs.Substitution.{ForwardTo, forward-start, forward-end}
-use Rattle.solve.proofs.BlockTurns.{block-fits, block-rows-room, first-next, block-forward}
+use Rattle.solve.proofs.BlockTurns.{block-fits, block-rows-room, block-forward}
 use Rattle.solve.proofs.blocked.forward_blocks.Statement.{statement}
 use Rattle.solve.proofs.blocked.forward_blocks.Tie as tie
 
@@ -90,7 +91,7 @@ forward-block-requires c κs =
       order = omega arith;
       columns = omega (arith, block-width .ensures, width-pos n b (l .c) (omega arith) (omega arith));
       fits = omega arith;
-      values = simp (length-take, length-drop) (omega
+      values = simp (zero-add, length-take, length-drop) (omega
           (arith, c .before .before .before .block-start .ensures, block-rows-room n (a .rows) (l .c) (block-width .result) (pre .fits) fits));
       rows = simp (length-take, length-drop) (omega (arith, l .inv .2 .size));
     }
@@ -121,7 +122,7 @@ loop-again c =
       fits,
       λ p. next (omega (arith, pre .fits)),
       block-forward n b (a .rows) (l .c) (block-start .result) (block-width .result) (now (a .matrix)) (now (a .work)) (l .work)
-          (forward-block .last .1 .1 .1 .0) (pre .values) (pre .fits) first (block-start .ensures) (block-width .ensures) fits (l .inv .2)
+          (forward-block .last .1 .1 .0) (pre .values) (pre .fits) first (block-start .ensures) (block-width .ensures) fits (l .inv .2)
           (forward-block .ensures),
     )
 

@@ -1,25 +1,32 @@
 -- `solve::blocked::forward_last_rows` meets its contract. The invariant of its loop: the products are subtracted from the rows before r, and `at` is
 -- where row r begins. Assumes nothing.
-use Prim.Native.Nat.{_-_, _≤_}
+use Prim.Native.Nat.{_+_, _-_, _≤_}
 use native.Mathlib.Omega.{arith}
 use mathlib.Core.Path.{_≡_}
 use denote.Ref.{now}
 use lib.ListN.{length-take}
 use Rattle.shape.specs.Places.{placeInBlock}
-use Rattle.shape.proofs.Rows.{place-in-block-next-row-under}
+use Rattle.calls.specs.Triangles.{placeFrom}
 use Rattle.solve.specs.Substitution.{entriesAt, RowsSubtracted}
 use Rattle.solve.proofs.Rows.{replaced-none}
-use Rattle.solve.proofs.BlockPlaces.{room-under, values-le}
+use Rattle.solve.proofs.BlockPlaces.{room-under, values-le, next-under}
 use Rattle.solve.proofs.BlockColumns.{under-row}
 use Rattle.solve.proofs.blocked.forward_last_rows.Statement.{statement}
 use Rattle.solve.proofs.blocked.forward_last_rows.Tie as tie
 
 abbrev Inv-loop : tie.InvT-loop
-Inv-loop h w from part work₀ at₀ r₀ work at r =
-    (from ≤ r) × (r ≤ h) × (at ≡ placeInBlock w r 0) × RowsSubtracted (entriesAt (placeInBlock w) part) w from r work₀ work
+Inv-loop from part work₀ skip h w width at₀ r₀ work at r =
+    (from ≤ r) × (r ≤ h) × (at ≡ placeInBlock (skip + w) (skip + r) skip)
+    × RowsSubtracted (entriesAt (placeFrom skip (placeInBlock (skip + w))) part) w from r work₀ work
 
 abbrev μ-loop : tie.MeasureT-loop
-μ-loop h w from part work₀ at₀ r₀ work at r = h - r
+μ-loop from part work₀ skip h w width at₀ r₀ work at r = h - r
+
+add-width : tie.Need-add-width Inv-loop μ-loop
+add-width c = omega arith
+
+add-place-in-block : tie.Need-add-place-in-block Inv-loop μ-loop
+add-place-in-block c = omega arith
 
 place-in-block-requires : tie.Need-place-in-block-requires Inv-loop μ-loop
 place-in-block-requires c κs = (omega arith, omega arith)
@@ -46,7 +53,7 @@ subtract-rising-requires : tie.Need-subtract-rising-requires Inv-loop μ-loop
 subtract-rising-requires c κs =
     let l = c .before .before .before .loop in
     let a = c .before .before .before .before .before .before .before .args in
-    simp length-take (omega (arith, room-under (a .h) (a .w) (l .r) (omega arith) (omega arith) (omega arith) (omega arith)))
+    simp length-take (omega (arith, room-under (a .block) (l .r) (omega arith) (omega arith) (omega arith) (omega arith)))
 
 mul-work : tie.Need-mul-work Inv-loop μ-loop
 mul-work c = omega arith
@@ -63,8 +70,8 @@ add-at c =
     let a = c .before .before .before .before .before .before .before .before .args in
     omega (
       arith,
-      room-under (a .h) (a .w) (l .r) (omega arith) (omega arith) (omega arith) (omega arith),
-      values-le (a .h) (a .w) (omega arith)
+      room-under (a .block) (l .r) (omega arith) (omega arith) (omega arith) (omega arith),
+      values-le (a .block) (omega arith)
           (omega arith),
     )
 
@@ -77,8 +84,8 @@ loop-again c =
     let l = c .before .before .before .before .loop in (
       omega arith,
       omega arith,
-      omega (arith, place-in-block-next-row-under (a .w) (l .r) 0 (omega arith)),
-      under-row (a .h) (a .w) (now (a .part)) (now (a .work)) (l .work) (omega arith) (omega arith) (a .from) (l .r) (l .at)
+      omega (arith, next-under (a .block) (l .r) (a .block .skip) (omega arith)),
+      under-row (a .block) (now (a .part)) (now (a .work)) (l .work) (omega arith) (omega arith) (a .from) (l .r) (l .at)
           (c .subtract-rising .result)
           (omega arith) (l .inv .0) (omega arith) (l .inv .2) (c .subtract-rising .ensures) (l .inv .3),
     )
@@ -88,7 +95,7 @@ same-length c = c .before .loop .inv .3 .size
 
 returns : tie.Need-returns Inv-loop μ-loop
 returns c =
-    let end : c .before .loop .r ≡ c .before .before .before .before .before .args .h = omega arith in
+    let end : c .before .loop .r ≡ c .before .before .before .before .before .args .block .h = omega arith in
     rw end at (c .before .loop .inv .3)
 
 pub forward-last-rows-spec : {M : Type 1} → statement M
@@ -97,6 +104,8 @@ forward-last-rows-spec =
     (tie.spec
     Inv-loop
     μ-loop
+    add-width
+    add-place-in-block
     place-in-block-requires
     loop-holds
     mul-subtract-rising

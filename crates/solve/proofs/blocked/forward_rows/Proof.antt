@@ -3,8 +3,7 @@ use Prim.Native.Nat.{_+_, _-_, _*_, _/_, _≤_}
 use native.Mathlib.Omega.{arith}
 use mathlib.Core.Path.{_≡_, _∙_}
 use denote.Ref.{now}
-use Rattle.shape.specs.Places.{placeInBlock}
-use Rattle.solve.specs.Substitution.{entriesAt}
+use Rattle.solve.specs.Substitution.{blockEntries}
 use Rattle.solve.proofs.Rows.{rows-join}
 use Rattle.solve.proofs.BlockColumns.{rows-beside}
 use Rattle.solve.proofs.Apart.{EighthsDone, eighths-none, eighths-next, eighths-all}
@@ -12,25 +11,25 @@ use Rattle.solve.proofs.blocked.forward_rows.Statement.{statement}
 use Rattle.solve.proofs.blocked.forward_rows.Tie as tie
 
 abbrev Inv-loop : tie.InvT-loop
-Inv-loop h w part work₀ q t₀ work t = (t ≤ (h - w) / 8) × EighthsDone (entriesAt (placeInBlock w) part) w ((h - w) / 8) t work₀ work
+Inv-loop block part work₀ w q t₀ work t = (t ≤ (block .h - block .w) / 8) × EighthsDone (blockEntries block part) (block .w) ((block .h - block .w) / 8) t work₀ work
 
 abbrev μ-loop : tie.MeasureT-loop
-μ-loop h w part work₀ q t₀ work t = (h - w) / 8 - t
+μ-loop block part work₀ w q t₀ work t = (block .h - block .w) / 8 - t
 
 sub-q : tie.Need-sub-q Inv-loop μ-loop
 sub-q c = omega arith
 
 loop-holds : tie.Need-loop-holds Inv-loop μ-loop
 loop-holds c =
-    let a = c .before .before .args in
-    (omega arith, eighths-none (entriesAt (placeInBlock (a .w)) (now (a .part))) (a .w) ((a .h - a .w) / 8) (now (a .work)))
+    let a = c .before .before .before .args in
+    (omega arith, eighths-none (blockEntries (a .block) (now (a .part))) (a .block .w) ((a .block .h - a .block .w) / 8) (now (a .work)))
 
 forward-rows8-requires : tie.Need-forward-rows8-requires Inv-loop μ-loop
 forward-rows8-requires c κs =
-    let entry = c .before .before .before .before .before in
+    let entry = c .before .before .before .before .before .before in
     let a = entry .args in
     let l = c .before .before .loop in
-    (rows-beside (a .h) (a .w) (now (a .part)) (now (a .work)) (l .work) (entry .pre) (l .inv .1 .size), omega arith)
+    (rows-beside (a .block) (now (a .part)) (now (a .work)) (l .work) (entry .pre) (l .inv .1 .size), omega arith)
 
 add-t : tie.Need-add-t Inv-loop μ-loop
 add-t c = omega arith
@@ -40,11 +39,11 @@ loop-less c = omega arith
 
 loop-again : tie.Need-loop-again Inv-loop μ-loop
 loop-again c =
-    let entry = c .before .before .before .before .before .before .before .before in
+    let entry = c .before .before .before .before .before .before .before .before .before in
     let a = entry .args in
     let l = c .before .before .before .before .before .loop in (
       omega arith,
-      eighths-next (entriesAt (placeInBlock (a .w)) (now (a .part))) (a .w) ((a .h - a .w) / 8) (l .t) (now (a .work)) (l .work) _
+      eighths-next (blockEntries (a .block) (now (a .part))) (a .block .w) ((a .block .h - a .block .w) / 8) (l .t) (now (a .work)) (l .work) _
           (c .before .before .before .before .loop-test .taken)
           (l .inv .1) (c .before .before .forward-rows8 .ensures),
     )
@@ -57,23 +56,23 @@ add-forward-last-rows c = omega arith
 
 forward-last-rows-requires : tie.Need-forward-last-rows-requires Inv-loop μ-loop
 forward-last-rows-requires c κs =
-    let entry = c .before .before .before .before .before in
+    let entry = c .before .before .before .before .before .before in
     let a = entry .args in
     let l = c .before .before .loop in
-    (rows-beside (a .h) (a .w) (now (a .part)) (now (a .work)) (l .work) (entry .pre) (l .inv .1 .size), (omega arith, omega arith))
+    (rows-beside (a .block) (now (a .part)) (now (a .work)) (l .work) (entry .pre) (l .inv .1 .size), (omega arith, omega arith))
 
 same-length : tie.Need-same-length Inv-loop μ-loop
 same-length c = c .before .before .forward-last-rows .ensures .size ∙ c .before .before .before .before .before .loop .inv .1 .size
 
 returns : tie.Need-returns Inv-loop μ-loop
 returns c =
-    let a = c .before .before .before .before .before .before .before .before .args in
+    let a = c .before .before .before .before .before .before .before .before .before .args in
     let l = c .before .before .before .before .before .loop in
-    let q = (a .h - a .w) / 8 in
+    let q = (a .block .h - a .block .w) / 8 in
     let all : l .t ≡ q = omega arith in
-    let entries = entriesAt (placeInBlock (a .w)) (now (a .part)) in
-    rows-join entries (a .w) (a .w) (a .w + 8 * q) (a .h) (now (a .work)) (l .work) _ (omega arith) (omega arith) (omega arith)
-    (eighths-all entries (a .w) q (now (a .work)) (l .work) (rw all at (l .inv .1))) (c .before .before .forward-last-rows .ensures)
+    let entries = blockEntries (a .block) (now (a .part)) in
+    rows-join entries (a .block .w) (a .block .w) (a .block .w + 8 * q) (a .block .h) (now (a .work)) (l .work) _ (omega arith) (omega arith) (omega arith)
+    (eighths-all entries (a .block .w) q (now (a .work)) (l .work) (rw all at (l .inv .1))) (c .before .before .forward-last-rows .ensures)
 
 pub forward-rows-spec : {M : Type 1} → statement M
 forward-rows-spec =

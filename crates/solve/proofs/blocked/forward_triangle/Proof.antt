@@ -1,27 +1,38 @@
 -- `solve::blocked::forward_triangle` meets its contract. The invariant of its loop: the rows before r are finished; row r begins at `at`. Assumes
 -- nothing.
 use Prim.Native.Nat.{_+_, _-_, _≤_, _<_}
+use native.Mathlib.Nat.{add-zero}
 use native.Mathlib.Omega.{arith}
 use mathlib.Core.Path.{_≡_}
 use denote.Ref.{now}
 use lib.ListN.{length-take}
-use Rattle.shape.specs.Places.{blockStart, placeInBlock}
-use Rattle.shape.proofs.Rows.{place-in-block-next-row-inside}
+use Rattle.shape.specs.Places.{placeInBlock}
+use Rattle.calls.specs.Triangles.{placeFrom}
 use Rattle.solve.specs.Substitution.{entriesAt, TriangleForward}
 use Rattle.solve.proofs.Triangles.{forward-none}
-use Rattle.solve.proofs.BlockPlaces.{first-place, room-inside, values-le}
+use Rattle.solve.proofs.BlockPlaces.{room, room-inside, values-le, next-inside}
 use Rattle.solve.proofs.BlockColumns.{triangle-row}
 use Rattle.solve.proofs.blocked.forward_triangle.Statement.{statement}
 use Rattle.solve.proofs.blocked.forward_triangle.Tie as tie
 
 abbrev Inv-loop : tie.InvT-loop
-Inv-loop h w part work₀ at₀ r₀ work at r = (r ≤ w) × (at ≡ placeInBlock w r 0) × TriangleForward (entriesAt (placeInBlock w) part) r work₀ work
+Inv-loop part work₀ skip w at₀ r₀ work at r =
+    (r ≤ w) × (at ≡ placeInBlock (skip + w) (skip + r) skip)
+    × TriangleForward (entriesAt (placeFrom skip (placeInBlock (skip + w))) part) r work₀ work
 
 abbrev μ-loop : tie.MeasureT-loop
-μ-loop h w part work₀ at₀ r₀ work at r = w - r
+μ-loop part work₀ skip w at₀ r₀ work at r = w - r
+
+add-place-in-block : tie.Need-add-place-in-block Inv-loop μ-loop
+add-place-in-block c = omega arith
+
+place-in-block-requires : tie.Need-place-in-block-requires Inv-loop μ-loop
+place-in-block-requires c κs = (omega arith, omega arith)
 
 loop-holds : tie.Need-loop-holds Inv-loop μ-loop
-loop-holds c = (omega arith, first-place (c .before .before .args .w), forward-none _ (now (c .before .before .args .work)))
+loop-holds c =
+    let a = c .before .before .before .args in
+    (omega arith, rw (add-zero (a .block .skip)) (c .place-in-block .ensures), forward-none _ (now (a .work)))
 
 mul-subtract-rising : tie.Need-mul-subtract-rising Inv-loop μ-loop
 mul-subtract-rising c = omega arith
@@ -38,11 +49,11 @@ slice-aggregate-subtract-rising c = simp length-take (omega arith)
 
 -- in a turn the row lies in the block column
 inside : (c : tie.In-loop Inv-loop μ-loop)
-    → let a = c .before .before .before .before .args in
-    c .before .loop .at + c .before .loop .r < blockStart (a .h) (a .w)
+    → let a = c .before .before .before .before .before .args in
+    c .before .loop .at + c .before .loop .r < room (a .block)
 inside c =
-    let a = c .before .before .before .before .args in
-    omega (arith, room-inside (a .h) (a .w) (c .before .loop .r) (omega arith) (omega arith))
+    let a = c .before .before .before .before .before .args in
+    omega (arith, room-inside (a .block) (c .before .loop .r) (omega arith) (omega arith))
 
 subtract-rising-requires : tie.Need-subtract-rising-requires Inv-loop μ-loop
 subtract-rising-requires c κs = simp length-take (omega (arith, inside (c .before .before)))
@@ -66,21 +77,24 @@ add-r : tie.Need-add-r Inv-loop μ-loop
 add-r c = omega arith
 
 add-at : tie.Need-add-at Inv-loop μ-loop
-add-at c =
-    let a = c .before .before .before .before .before .before .before .before .args in
-    omega (arith, inside (c .before .before .before .before), values-le (a .h) (a .w) (omega arith) (omega arith))
+add-at c = omega arith
+
+add-at-2 : tie.Need-add-at-2 Inv-loop μ-loop
+add-at-2 c =
+    let a = c .before .before .before .before .before .before .before .before .before .args in
+    omega (arith, inside (c .before .before .before .before), values-le (a .block) (omega arith) (omega arith))
 
 loop-less : tie.Need-loop-less Inv-loop μ-loop
 loop-less c = omega arith
 
 loop-again : tie.Need-loop-again Inv-loop μ-loop
 loop-again c =
-    let a = c .before .before .before .before .before .before .before .before .args in
+    let a = c .before .before .before .before .before .before .before .before .before .args in
     let l = c .before .before .before .before .before .loop in
     let subtract-rising = c .before .subtract-rising in (
       omega arith,
-      omega (arith, place-in-block-next-row-inside (a .w) (l .r) 0 (omega arith)),
-      triangle-row (a .h) (a .w) (now (a .part)) (now (a .work)) (l .work) (omega arith) (omega arith) (l .r) (l .at) (subtract-rising .result)
+      omega (arith, next-inside (a .block) (l .r) (omega arith)),
+      triangle-row (a .block) (now (a .part)) (now (a .work)) (l .work) (omega arith) (omega arith) (l .r) (l .at) (subtract-rising .result)
           (c .before .before .before .before .loop-test .taken) (l .inv .1) (subtract-rising .ensures) (l .inv .2),
     )
 
@@ -89,7 +103,7 @@ same-length c = c .before .loop .inv .2 .size
 
 returns : tie.Need-returns Inv-loop μ-loop
 returns c =
-    let end : c .before .loop .r ≡ c .before .before .before .before .args .w = omega arith in
+    let end : c .before .loop .r ≡ c .before .before .before .before .before .args .block .w = omega arith in
     rw end at (c .before .loop .inv .2)
 
 pub forward-triangle-spec : {M : Type 1} → statement M
@@ -98,6 +112,8 @@ forward-triangle-spec =
     (tie.spec
     Inv-loop
     μ-loop
+    add-place-in-block
+    place-in-block-requires
     loop-holds
     mul-subtract-rising
     slice-read-subtract-rising
@@ -111,6 +127,7 @@ forward-triangle-spec =
     slice-write-work
     add-r
     add-at
+    add-at-2
     loop-less
     loop-again
     same-length

@@ -15,9 +15,9 @@ use Rattle.solve.proofs.rhs.solve_all.Tie as tie
 
 abbrev Inv-loop : tie.InvT-loop
 Inv-loop layout shape m matrix rhs₀ work₀ n from₀ q₀ rhs work from q =
-    (q ≤ m) × (from ≡ q * shape .order) × (length work ≡ shape .order)
-    × (rhs ≡ solutions (shape .order) (factorOf layout (shape .order) (shape .block) matrix) q rhs₀)
-    × (lowestRefusal (judgeRhs (shape .order) (factorOf layout (shape .order) (shape .block) matrix) rhs₀) q ≡ success)
+    (q ≤ m) × (from ≡ q * shape .order) × (length work ≡ length work₀)
+    × (rhs ≡ solutions (shape .order) (factorOf layout (shape .order) (shape .block) 0 matrix) q rhs₀)
+    × (lowestRefusal (judgeRhs (shape .order) (factorOf layout (shape .order) (shape .block) 0 matrix) rhs₀) q ≡ success)
 
 abbrev μ-loop : tie.MeasureT-loop
 μ-loop layout shape m matrix rhs₀ work₀ n from₀ q₀ rhs work from q = m - q
@@ -28,9 +28,9 @@ loop-holds c =
     let start = c .before .before .before in (
       omega arith,
       omega arith,
-      start .pre .0 .workLength,
+      refl,
       none-solved (start .args .shape .order)
-          (factorOf (start .args .layout) (start .args .shape .order) (start .args .shape .block) (now (start .args .matrix))) (now (start .args .rhs)),
+          (factorOf (start .args .layout) (start .args .shape .order) (start .args .shape .block) 0 (now (start .args .matrix))) (now (start .args .rhs)),
       refl,
     )
 
@@ -57,12 +57,23 @@ part-solve-one-end c =
     let start = c .before .before .before .before .before in
     let loop = c .before .loop in
     let size : length (loop .rhs) ≡ length (now (start .args .rhs)) = ap length (loop .inv .3) ∙ length-solutions (start .args .shape .order)
-    (factorOf (start .args .layout) (start .args .shape .order) (start .args .shape .block) (now (start .args .matrix))) (now (start .args .rhs))
+    (factorOf (start .args .layout) (start .args .shape .order) (start .args .shape .block) 0 (now (start .args .matrix))) (now (start .args .rhs))
     (start .args .m) (loop .q) (start .pre .1) (loop .inv .0) in
     omega (arith, next-within (start .args .shape .order) (start .args .m) (loop .q) (c .loop-test .taken))
 
 solve-one-requires : tie.Need-solve-one-requires Inv-loop μ-loop
-solve-one-requires c κs = search needs
+solve-one-requires c κs =
+    let pre = c .before .before .before .before .before .before .before .pre .0 in (
+      record {
+        order = pre .order;
+        block = pre .block;
+        before = pre .before;
+        inside = pre .inside;
+        matrixLength = pre .matrixLength;
+        workLength = c .before .before .before .loop .inv .2 ∙ pre .workLength;
+      },
+      search needs,
+    )
 
 refusal-requires : tie.Need-refusal-requires Inv-loop μ-loop
 refusal-requires c κs = search needs
@@ -72,12 +83,12 @@ same-length c =
     let start = c .before .before .before .before .before .before .before .before .before .before .before .before .before .before in
     let loop = c .before .before .before .before .before .before .before .before .before .before .loop in
     ap length (turn-kept (start .args .shape .order) (start .args .m)
-    (factorOf (start .args .layout) (start .args .shape .order) (start .args .shape .block) (now (start .args .matrix))) (now (start .args .rhs))
+    (factorOf (start .args .layout) (start .args .shape .order) (start .args .shape .block) 0 (now (start .args .matrix))) (now (start .args .rhs))
     (loop .q) (loop .from) (loop .from + start .args .shape .order - loop .from) (loop .rhs) _ _
     (loop .inv .1) (omega arith) (loop .inv .3) (loop .inv .4) (c .before .before .before .before .before .before .solve-one .ensures)
     (c .before .if1 .taken))
     ∙ ap length (loop .inv .3) ∙ length-solutions (start .args .shape .order)
-    (factorOf (start .args .layout) (start .args .shape .order) (start .args .shape .block) (now (start .args .matrix))) (now (start .args .rhs))
+    (factorOf (start .args .layout) (start .args .shape .order) (start .args .shape .block) 0 (now (start .args .matrix))) (now (start .args .rhs))
     (start .args .m) (loop .q) (start .pre .1) (loop .inv .0)
 
 same-length-2 : tie.Need-same-length-2 Inv-loop μ-loop
@@ -88,7 +99,7 @@ returns c =
     let start = c .before .before .before .before .before .before .before .before .before .before .before .before .before .before in
     let loop = c .before .before .before .before .before .before .before .before .before .before .loop in
     turn-refused (start .args .shape .order) (start .args .m)
-    (factorOf (start .args .layout) (start .args .shape .order) (start .args .shape .block) (now (start .args .matrix))) (now (start .args .rhs))
+    (factorOf (start .args .layout) (start .args .shape .order) (start .args .shape .block) 0 (now (start .args .matrix))) (now (start .args .rhs))
     (loop .q) (loop .from) (loop .from + start .args .shape .order - loop .from) (loop .rhs) _ _
     (loop .inv .1) (omega arith) (loop .inv .3) (loop .inv .4) (c .before .before .before .before .before .before .solve-one .ensures)
     (c .refusal .result) (c .before .before .before .before .before .before .before .before .before .loop-test .taken) (c .before .if1 .taken)
@@ -105,7 +116,7 @@ loop-again c =
     let start = c .before .before .before .before .before .before .before .before .before .before .before .before .before in
     let loop = c .before .before .before .before .before .before .before .before .before .loop in
     let turn = turn-solved (start .args .shape .order) (start .args .m)
-    (factorOf (start .args .layout) (start .args .shape .order) (start .args .shape .block) (now (start .args .matrix))) (now (start .args .rhs))
+    (factorOf (start .args .layout) (start .args .shape .order) (start .args .shape .block) 0 (now (start .args .matrix))) (now (start .args .rhs))
     (loop .q) (loop .from) (loop .from + start .args .shape .order - loop .from) (loop .rhs) _ _
     (loop .inv .1) (omega arith) (loop .inv .3) (loop .inv .4) (c .before .before .before .before .before .solve-one .ensures) (c .if1 .left) in (
       omega arith,
@@ -124,7 +135,7 @@ same-length-3 c =
     let start = c .before .before .before .before .before .before in
     let loop = c .before .before .loop in
     ap length (loop .inv .3) ∙ length-solutions (start .args .shape .order)
-    (factorOf (start .args .layout) (start .args .shape .order) (start .args .shape .block) (now (start .args .matrix))) (now (start .args .rhs))
+    (factorOf (start .args .layout) (start .args .shape .order) (start .args .shape .block) 0 (now (start .args .matrix))) (now (start .args .rhs))
     (start .args .m) (loop .q) (start .pre .1) (loop .inv .0)
 
 same-length-4 : tie.Need-same-length-4 Inv-loop μ-loop
@@ -135,13 +146,13 @@ returns-2 c =
     let start = c .before .before .before .before .before .before in
     let loop = c .before .before .loop in
     let end : loop .q ≡ start .args .m = omega arith in
-    all-solved (start .args .shape .order) (factorOf (start .args .layout) (start .args .shape .order) (start .args .shape .block)
+    all-solved (start .args .shape .order) (factorOf (start .args .layout) (start .args .shape .order) (start .args .shape .block) 0
     (now (start .args .matrix))) (now (start .args .rhs)) (start .args .m) (c .refusal2 .result) (loop .rhs)
     (subst (λ k. lowestRefusal (judgeRhs (start .args .shape .order)
-    (factorOf (start .args .layout) (start .args .shape .order) (start .args .shape .block) (now (start .args .matrix))) (now (start .args .rhs))) k ≡
+    (factorOf (start .args .layout) (start .args .shape .order) (start .args .shape .block) 0 (now (start .args .matrix))) (now (start .args .rhs))) k ≡
     success) end (loop .inv .4)) (c .refusal2 .ensures)
     (loop .inv .3 ∙ ap (λ k. solutions (start .args .shape .order)
-    (factorOf (start .args .layout) (start .args .shape .order) (start .args .shape .block) (now (start .args .matrix))) k (now (start .args .rhs)))
+    (factorOf (start .args .layout) (start .args .shape .order) (start .args .shape .block) 0 (now (start .args .matrix))) k (now (start .args .rhs)))
     end)
 
 pub solve-all-spec : {M : Type 1} → statement M

@@ -1,4 +1,5 @@
 -- `solve::rhs::solve_cleared` meets its contract. Assumes nothing.
+use native.Mathlib.Nat.{sub-zero}
 use mathlib.Core.Path.{_∙_, ap}
 use borrow.Author.Needs.{needs}
 use lib.ListN.{replicate}
@@ -22,7 +23,7 @@ returns : tie.Need-returns
 returns c =
     let p = c .before .before .before .before .before .before .before .before .before .before .before .before .before .before .pre in
     let solve-all = c .before .before .before .before .before .before .before .before .solve-all in
-    (solve-all .ensures, c .before .before .clear .ensures ∙ ap (λ k. replicate k zero64) (solve-all .kept .1 .1 .1 .1 .1 .0 ∙ p .0 .workLength))
+    (solve-all .ensures, c .before .before .clear .ensures ∙ ap (λ k. replicate k zero64) (solve-all .kept .1 .1 .1 .1 .1 .0 ∙ p .0 .workLength ∙ sub-zero _))
 
 pub solve-cleared-spec : {M : Type 1} → statement M
 solve-cleared-spec =

@@ -1,4 +1,5 @@
 -- `solve::rhs::solve_one` meets its contract: a solution that passes takes the place of its right-hand side. Assumes nothing.
+use native.Mathlib.Nat.{sub-zero}
 use mathlib.Core.Path.{refl}
 use borrow.Author.Needs.{needs}
 use borrow.Author.Tests.{not-true, not-false}
@@ -21,7 +22,8 @@ returns : tie.Need-returns
 returns c =
     let copied = c .before .before .before .before .before .before .before .copy .ensures in
     let tried = c .before .before .before .substitute in
-    record { verdict = cc (not-true (tried .result) (c .if1 .taken), tried .ensures .verdict, copied); kept = refl }
+    let done = rw sub-zero at (tried .ensures) in
+    rw sub-zero (record { verdict = cc (not-true (tried .result) (c .if1 .taken), done .verdict, copied); kept = refl })
 
 copy-requires-2 : tie.Need-copy-requires-2
 copy-requires-2 c κs = search needs
@@ -37,10 +39,12 @@ returns-2 c =
     let copied = c .before .before .before .before .before .before .before .before .before .before .before .before .copy .ensures in
     let tried = c .before .before .before .before .before .before .before .before .substitute in
     let passed = not-false (tried .result) (c .before .before .before .before .before .if1 .left) in
-    record {
-      verdict = cc (passed, tried .ensures .verdict, copied);
-      kept = cc (c .before .before .copy2 .ensures, tried .ensures .solved passed, copied);
-    }
+    let done = rw sub-zero at (tried .ensures) in
+    rw sub-zero
+    (record {
+      verdict = cc (passed, done .verdict, copied);
+      kept = cc (c .before .before .copy2 .ensures, done .solved passed, copied);
+    })
 
 pub solve-one-spec : {M : Type 1} → statement M
 solve-one-spec =

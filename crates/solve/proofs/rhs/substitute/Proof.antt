@@ -1,4 +1,5 @@
 -- `solve::rhs::substitute` meets its contract: what is finite decides, and the second substitution ends in the solution. Assumes nothing.
+use Prim.Native.Nat.{_-_}
 use borrow.Author.Needs.{needs}
 use denote.Ref.{now}
 use Rattle.solve.specs.Solving.{factorOf}
@@ -18,7 +19,7 @@ same-length c = search needs
 returns : tie.Need-returns
 returns c =
     let args = c .before .before .before .before .before .before .before .before .before .args in
-    refused-forward (args .shape .order) (factorOf (args .layout) (args .shape .order) (args .shape .block) (now (args .matrix))) (now (args .work)) _
+    refused-forward (args .shape .order - args .k) (factorOf (args .layout) (args .shape .order) (args .shape .block) (args .k) (now (args .matrix))) (now (args .work)) _
     _ _
     (c .before .before .before .before .before .forward .ensures) (c .before .all-finite .ensures) (c .if1 .taken)
 
@@ -34,7 +35,7 @@ same-length-2 c = search needs
 returns-2 : tie.Need-returns-2
 returns-2 c =
     let args = c .before .before .before .before .before .before .before .before .before .before .before .before .before .before .before .args in
-    substituted (args .shape .order) (factorOf (args .layout) (args .shape .order) (args .shape .block) (now (args .matrix))) (now (args .work)) _ _ _
+    substituted (args .shape .order - args .k) (factorOf (args .layout) (args .shape .order) (args .shape .block) (args .k) (now (args .matrix))) (now (args .work)) _ _ _
     _
     (c .before .before .before .before .before .before .before .before .before .before .before .forward .ensures)
     (c .before .before .before .before .before .before .before .all-finite .ensures) (c .before .before .before .before .before .before .if1 .left)

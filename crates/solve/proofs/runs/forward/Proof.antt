@@ -5,10 +5,9 @@ use mathlib.Core.Path.{_≡_, sym, _∙_}
 use denote.Ref.{now}
 use Rattle.shape.specs.Places.{triangle, blockedPlace, blockOf, blockStart, width}
 use Rattle.shape.proofs.Bounds.{block-start-le, triangle-le}
-use Rattle.shape.proofs.Blocks.{block-of-le, block-of-lt, width-pos, width-le}
+use Rattle.shape.proofs.Blocks.{block-of-le, block-of-lt, width-pos, width-le, first-next}
 use Rattle.calls.specs.Triangles.{height, load}
 use Rattle.solve.proofs.Substitution.{ForwardTo, forward-start, forward-end}
-use Rattle.solve.proofs.BlockTurns.{first-next}
 use Rattle.solve.proofs.RunTurns.{run-lent, run-forward}
 use Rattle.solve.proofs.runs.forward.Statement.{statement}
 use Rattle.solve.proofs.runs.forward.Tie as tie
