@@ -4,8 +4,9 @@
  *   OPENBLAS_CORETYPE=Prescott OPENBLAS_NUM_THREADS=1 bench LIBOPENBLAS BLOCKS [N..]
  *
  * measures the orders 500, 1,000 and 2,000 and each N, and prints a line for each subject: order, who, what with its block length and its number of right-hand
- * sides where it has them (solve_blocked_64_100), the least processor time of a call in seconds, and the core type. LIBOPENBLAS is the path of
- * libopenblas.so.0. The calls that work by blocks are measured at block length 64, and at orders 1,000 and 2,000 at those of BLOCKS (16,32, or nothing) too. */
+ * sides where it has them (solve_blocked_64_100), the least processor time of a call in seconds, and the core type. Variances are those of the first unknown
+ * and of one in the middle (variance_blocked_middle_64). LIBOPENBLAS is the path of libopenblas.so.0. The calls that work by blocks are measured at block length
+ * 64, and at orders 1,000 and 2,000 at those of BLOCKS (16,32, or nothing) too. */
 #define _GNU_SOURCE
 #include <dlfcn.h>
 #include <emmintrin.h>
@@ -87,10 +88,12 @@ static double *original, *matrix, *full;              /* the packed matrix; what
 static double *factor, *blocked_factor;               /* of the matrix, by the engine */
 static metsovary_shape matrix_shape, factor_shape, blocked_shape; /* what the engine is told that matrix and the two factors hold */
 static double *right_sides, *solutions, *x, *work;    /* MANY right-hand sides, their solutions by the engine; what a solver works on */
+static double first_variance, middle_variance;        /* of unknowns 0 and middle(), by the plain solver */
 
 static metsovary_shape shape(uint64_t state) { return (metsovary_shape){(uint64_t)n, (uint64_t)block, state}; }
 static size_t block_work(void) { return (size_t)n * (size_t)(n < block ? n : block); }
 static size_t rhs_length(void) { return (size_t)n * (size_t)sides; }
+static int middle(void) { return n > 14 ? n / 2 + 7 : n / 2; } /* at most block lengths it lies inside a block column */
 
 static metsovary_shape accept(const char *call, metsovary_result r) {
     if (r.code != 0) die(call, "refused");
@@ -116,6 +119,13 @@ static double random_unit(void) {
     return (double)(int64_t)(z ^ (z >> 31)) / 9223372036854775808.0;
 }
 
+static double solved_variance(int unknown) {
+    memset(x, 0, (size_t)n * sizeof *x);
+    x[unknown] = 1;
+    accept("solve_plain", metsovary_solve_plain(factor_shape, 1, factor, length, x, (size_t)n, work, (size_t)n));
+    return x[unknown];
+}
+
 /* The matrix has n on its diagonal and values between -1 and 1 below it, so it is positive definite. */
 static void make_operands(int order) {
     n = order, block = MAX_BLOCK, sides = MANY, blocked_shape = (metsovary_shape){0};
@@ -132,6 +142,7 @@ static void make_operands(int order) {
     factor_shape = accept("factor_plain", metsovary_factor_plain(shape(METSOVARY_PACKED_RAW), factor, length, work, (size_t)n));
     copy(solutions, right_sides, rhs_length());
     accept("solve_plain", metsovary_solve_plain(factor_shape, (uint64_t)sides, factor, length, solutions, rhs_length(), work, (size_t)n));
+    first_variance = solved_variance(0), middle_variance = solved_variance(middle());
 }
 
 static void free_operands(void) {
@@ -240,6 +251,23 @@ static void dpptrs_of_reference(void) {
     agree_on_solution("dpptrs");
 }
 
+static void variance_plain(int unknown, double wanted) {
+    metsovary_result r = metsovary_variance_plain(factor_shape, (uint64_t)unknown, factor, length, work, (size_t)n);
+    accept("variance_plain", r);
+    agree("variance_plain", r.value, wanted);
+}
+
+static void variance_blocked(int unknown, double wanted) {
+    metsovary_result r = metsovary_variance_blocked(blocked_shape, (uint64_t)unknown, blocked_factor, length, work, (size_t)n);
+    accept("variance_blocked", r);
+    agree("variance_blocked", r.value, wanted);
+}
+
+static void first_plain(void) { variance_plain(0, first_variance); }
+static void middle_plain(void) { variance_plain(middle(), middle_variance); }
+static void first_blocked(void) { variance_blocked(0, first_variance); }
+static void middle_blocked(void) { variance_blocked(middle(), middle_variance); }
+
 static void packed_to_blocked(void) { matrix_shape = rearrange(matrix_shape, matrix); }
 
 static void blocked_to_packed(void) {
@@ -271,6 +299,10 @@ static const subject always[] = {
     {"metsovary", "solve_plain", 0, 1, set_right_sides, solve_plain},
     {"metsovary", "solve_blocked", 64, 1, set_blocked_factor, solve_blocked},
     {"reference", "dpptrs", 0, 1, set_right_sides, dpptrs_of_reference},
+    {"metsovary", "variance_plain_first", 0, 0, set_right_sides, first_plain},
+    {"metsovary", "variance_plain_middle", 0, 0, set_right_sides, middle_plain},
+    {"metsovary", "variance_blocked_first", 64, 0, set_blocked_factor, first_blocked},
+    {"metsovary", "variance_blocked_middle", 64, 0, set_blocked_factor, middle_blocked},
     {"metsovary", "solve_plain", 0, MANY, set_right_sides, solve_plain},
     {"metsovary", "solve_blocked", 64, MANY, set_blocked_factor, solve_blocked},
     {"reference", "dpptrs", 0, MANY, set_right_sides, dpptrs_of_reference},
@@ -283,6 +315,8 @@ static const subject by_block[] = {
     {"metsovary", "blocked_to_packed", 0, 0, set_blocked, blocked_to_packed},
     {"metsovary", "solve_blocked", 0, 1, set_blocked_factor, solve_blocked},
     {"metsovary", "solve_blocked", 0, MANY, set_blocked_factor, solve_blocked},
+    {"metsovary", "variance_blocked_first", 0, 0, set_blocked_factor, first_blocked},
+    {"metsovary", "variance_blocked_middle", 0, 0, set_blocked_factor, middle_blocked},
 };
 
 enum { ALWAYS = sizeof always / sizeof *always, BY_BLOCK = sizeof by_block / sizeof *by_block };

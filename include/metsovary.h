@@ -1,5 +1,5 @@
-/* Metsovary: Cholesky factor and solution of symmetric positive definite systems of order up to 4,000 in binary64, packed or by blocks, bit for bit
- * the same on both ways. Link libengine.a (rt staticlib engine).
+/* Metsovary: Cholesky factor and solution of symmetric positive definite systems of order up to 4,000 in binary64, and the variance of one unknown, packed or
+ * by blocks, bit for bit the same on both ways. Link libengine.a (rt staticlib engine).
  *
  * A call examines its orders, lengths, states and values itself, refuses by the first rule that holds, in the order of the list below, and touches only the
  * memory that it is lent. The caller owes: pointers to as many values as the length says (any pointer where that is 0), memories that do not overlap, the
@@ -21,6 +21,8 @@
  *   blocked factor        blocked raw     blocked factor
  *   plain solver          packed factor   the same
  *   blocked solver        blocked factor  the same
+ *   plain variance        packed factor   the same
+ *   blocked variance      blocked factor  the same
  * After 10, 11 and 16 the shape returned says spent, which no call takes; after every other refusal it is the shape that was handed in.
  *
  * code  meaning                                                               place
@@ -30,22 +32,25 @@
  *   15  the state does not suit the call                                      0
  *    3  the matrix is not exactly n(n + 1)/2 values                           0
  *    4  the work memory is too short                                          0
+ *   14  a variance: the unknown is not below the order                        0
  *    5  a solver: over 1,000 right-hand sides                                 0
  *    6  a solver: the right-hand sides are not exactly n times their number   0
- *    7  a factor or solver: a matrix value is not finite                      its lowest position
+ *    7  a factor, solver or variance: a matrix value is not finite            its lowest position
+ *       (a variance: of those that it reads)
  *    8  a solver: a right-hand-side value is not finite                       its lowest position
- *    9  a solver: a diagonal value is not greater than zero                   its lowest column
+ *    9  a solver or variance: a diagonal value is not greater than zero       its lowest column
+ *       (a variance: of those that it reads)
  *   10  a factor: a pivot is not greater than zero; value: the pivot          the lowest refused column
  *   16  a factor: a column is weak, its pivot greater than zero but not       the lowest refused column
  *       greater than 2^-40 of a(j, j) at entry; value: the pivot
  *   11  a factor: an entry below a pivot greater than zero is not finite      the lowest refused column
- *   12  a solver: a y or an x, of the forward or backward substitution,       the lowest such right-hand side
- *       is not finite
+ *   12  a solver or variance: a y or an x, of the forward or backward         the lowest such right-hand side;
+ *       substitution, is not finite (a variance: of those that it forms)      a variance: 0
  *
- * Of 10, 16 and 11 the lowest refused column decides, and the list's order only within it. The value is +0 except under 10, where it may be minus infinity, and
- * under 16. exact: a factor succeeds, and the square of each of its roots is the pivot exactly; so it is true of an accepted order 0. It is false after every
- * refusal, and from rearrangers and solvers, which take no root. After 1 to 9 and 15 all memory is as it was. On success and after 10 to 12 and 16 the needed
- * length of work memory is +0 and the rest as it was. */
+ * Of 10, 16 and 11 the lowest refused column decides, and the list's order only within it. The value is +0 except under 10, where it may be minus infinity,
+ * under 16, and on success of a variance call. exact: a factor succeeds, and the square of each of its roots is the pivot exactly; so it is true of an accepted
+ * order 0. It is false after every refusal, and from rearrangers, solvers and variance calls, which take no root. After 1 to 9, 14 and 15 all memory is as it
+ * was. On success and after 10 to 12 and 16 the needed length of work memory is +0 and the rest as it was. */
 #ifndef METSOVARY_H
 #define METSOVARY_H
 
@@ -78,6 +83,13 @@ metsovary_result metsovary_factor_blocked(metsovary_shape, double *matrix, size_
  * values. After 12 the right-hand sides before the place hold solutions, that one and the later ones are as they were. */
 metsovary_result metsovary_solve_plain(metsovary_shape, uint64_t right_sides, const double *matrix, size_t, double *x, size_t, double *work, size_t);
 metsovary_result metsovary_solve_blocked(metsovary_shape, uint64_t right_sides, const double *matrix, size_t, double *x, size_t, double *work, size_t);
+
+/* The variance of one unknown, in value, from a packed or a blocked factor: entry (unknown, unknown) of the inverse of the matrix that was factored, as two
+ * substitutions compute it, in the unit of 1 over the matrix's. The caller scales it by the variance of unit weight, his own estimate of the measurement noise. It is value number `unknown` of
+ * the solution for a right-hand side that is 1 there and +0 elsewhere, bit for bit, wherever the solver accepts that one. Only the entries whose row and column
+ * are both `unknown` or later are read: whatever the others hold changes nothing. Work: n values. */
+metsovary_result metsovary_variance_plain(metsovary_shape, uint64_t unknown, const double *matrix, size_t, double *work, size_t);
+metsovary_result metsovary_variance_blocked(metsovary_shape, uint64_t unknown, const double *matrix, size_t, double *work, size_t);
 
 #ifdef __cplusplus
 }

@@ -23,7 +23,7 @@ size_t place(enum layout layout, metsovary_shape shape, size_t i, size_t j) {
 
 /* ---- states ---- */
 
-enum operation { REARRANGE, FACTOR, SOLVE };
+enum operation { REARRANGE, FACTOR, SOLVE, VARIANCE };
 
 /* a call, by what it does and the layout that it wants, and the shape that it is handed */
 typedef struct { enum operation operation; enum layout layout; metsovary_shape shape; } task;
@@ -39,6 +39,8 @@ static const state_row state_rows[] = {
     {FACTOR, BLOCKED, METSOVARY_BLOCKED_RAW, METSOVARY_BLOCKED_FACTOR},
     {SOLVE, PACKED, METSOVARY_PACKED_FACTOR, METSOVARY_PACKED_FACTOR},
     {SOLVE, BLOCKED, METSOVARY_BLOCKED_FACTOR, METSOVARY_BLOCKED_FACTOR},
+    {VARIANCE, PACKED, METSOVARY_PACKED_FACTOR, METSOVARY_PACKED_FACTOR},
+    {VARIANCE, BLOCKED, METSOVARY_BLOCKED_FACTOR, METSOVARY_BLOCKED_FACTOR},
 };
 
 /* NULL where the state does not suit the call */
@@ -60,8 +62,8 @@ static metsovary_result answer(task t, uint64_t code, uint64_t where, double val
 }
 
 static size_t needed_work(task t) {
-    bool by_columns = t.operation == SOLVE || (t.operation == FACTOR && t.layout == PACKED);
-    return by_columns ? t.shape.order : needed(t.shape.order, t.shape.block);
+    bool by_blocks = t.operation == REARRANGE || (t.operation == FACTOR && t.layout == BLOCKED);
+    return by_blocks ? needed(t.shape.order, t.shape.block) : t.shape.order;
 }
 
 static uint64_t check_call(task t, size_t length, size_t work) {
@@ -78,6 +80,24 @@ static size_t first_not_finite(const double *values, size_t length) {
     size_t p = 0;
     while (p < length && isfinite(values[p])) p++;
     return p;
+}
+
+/* the lowest position of an entry that is not finite, of those whose row and column are both `first` or later; the matrix's length where there is none */
+static size_t first_entry_not_finite(enum layout layout, metsovary_shape shape, size_t first, const double *matrix) {
+    size_t lowest = triangle(shape.order);
+    for (size_t j = first; j < shape.order; j++)
+        for (size_t i = j; i < shape.order; i++) {
+            size_t p = place(layout, shape, i, j);
+            if (p < lowest && !isfinite(matrix[p])) lowest = p;
+        }
+    return lowest;
+}
+
+/* the lowest column from `first` on whose diagonal value is not greater than zero; the order where there is none */
+static size_t first_not_above_zero(enum layout layout, metsovary_shape shape, size_t first, const double *matrix) {
+    size_t j = first;
+    while (j < shape.order && matrix[place(layout, shape, j, j)] > 0) j++;
+    return j;
 }
 
 static void clear(double *work, size_t length) {
@@ -101,11 +121,12 @@ metsovary_result reference_rearrange(enum layout from, enum layout to, metsovary
 
 /* ---- the arithmetic, on a full square array by columns ---- */
 
-static double *load(enum layout layout, metsovary_shape shape, const double *matrix) {
-    size_t n = shape.order;
+/* the entries whose row and column are both `first` or later */
+static double *load(enum layout layout, metsovary_shape shape, size_t first, const double *matrix) {
+    size_t n = shape.order - first;
     double *a = malloc((n * n + 1) * sizeof *a);
     for (size_t j = 0; j < n; j++)
-        for (size_t i = j; i < n; i++) a[i + j * n] = matrix[place(layout, shape, i, j)];
+        for (size_t i = j; i < n; i++) a[i + j * n] = matrix[place(layout, shape, first + i, first + j)];
     return a;
 }
 
@@ -116,7 +137,7 @@ metsovary_result reference_factor(enum layout layout, metsovary_shape shape, dou
     if (code) return answer(asked, code, 0, 0.0);
     size_t bad = first_not_finite(matrix, length);
     if (bad < length) return answer(asked, 7, bad, 0.0);
-    double *a = load(layout, shape, matrix);
+    double *a = load(layout, shape, 0, matrix);
     metsovary_result r = answer(asked, 0, 0, 0.0);
     bool exact = true;
     size_t j;
@@ -155,6 +176,30 @@ metsovary_result reference_factor(enum layout layout, metsovary_shape shape, dou
     return r;
 }
 
+/* A right-hand side becomes its solution in its own memory; whether every y and x on the way is finite. */
+static bool substitute(size_t n, const double *l, double *y) {
+    bool finite = true;
+    for (size_t i = 0; i < n; i++) {
+        double t = y[i];
+        for (size_t k = 0; k < i; k++) {
+            double product = l[i + k * n] * y[k];
+            t = t - product;
+        }
+        y[i] = t / l[i + i * n];
+        finite = finite && isfinite(y[i]);
+    }
+    for (size_t i = n; i-- > 0;) {
+        double t = y[i];
+        for (size_t k = n - 1; k > i; k--) {
+            double product = l[k + i * n] * y[k];
+            t = t - product;
+        }
+        y[i] = t / l[i + i * n];
+        finite = finite && isfinite(y[i]);
+    }
+    return finite;
+}
+
 metsovary_result reference_solve(enum layout layout, metsovary_shape shape, uint64_t m, const double *matrix, size_t length, double *x, size_t x_length, double *work, size_t work_length) {
     task asked = {SOLVE, layout, shape};
     size_t n = shape.order;
@@ -166,34 +211,36 @@ metsovary_result reference_solve(enum layout layout, metsovary_shape shape, uint
     if (bad < length) return answer(asked, 7, bad, 0.0);
     bad = first_not_finite(x, x_length);
     if (bad < x_length) return answer(asked, 8, bad, 0.0);
-    for (size_t j = 0; j < n; j++)
-        if (!(matrix[place(layout, shape, j, j)] > 0)) return answer(asked, 9, j, 0.0);
-    double *l = load(layout, shape, matrix);
+    size_t low = first_not_above_zero(layout, shape, 0, matrix);
+    if (low < n) return answer(asked, 9, low, 0.0);
+    double *l = load(layout, shape, 0, matrix);
     double *y = malloc((n + 1) * sizeof *y);
     metsovary_result r = answer(asked, 0, 0, 0.0);
     for (size_t q = 0; q < m && r.code == 0; q++) {
-        bool finite = true;
-        for (size_t i = 0; i < n; i++) {
-            double t = x[q * n + i];
-            for (size_t k = 0; k < i; k++) {
-                double product = l[i + k * n] * y[k];
-                t = t - product;
-            }
-            y[i] = t / l[i + i * n];
-            finite = finite && isfinite(y[i]);
-        }
-        for (size_t i = n; i-- > 0;) {
-            double t = y[i];
-            for (size_t k = n - 1; k > i; k--) {
-                double product = l[k + i * n] * y[k];
-                t = t - product;
-            }
-            y[i] = t / l[i + i * n];
-            finite = finite && isfinite(y[i]);
-        }
-        if (finite) memcpy(x + q * n, y, n * sizeof *y);
+        memcpy(y, x + q * n, n * sizeof *y);
+        if (substitute(n, l, y)) memcpy(x + q * n, y, n * sizeof *y);
         else r = answer(asked, 12, q, 0.0);
     }
+    free(y);
+    free(l);
+    clear(work, needed_work(asked));
+    return r;
+}
+
+metsovary_result reference_variance(enum layout layout, metsovary_shape shape, uint64_t unknown, const double *matrix, size_t length, double *work, size_t work_length) {
+    task asked = {VARIANCE, layout, shape};
+    uint64_t code = check_call(asked, length, work_length);
+    if (code) return answer(asked, code, 0, 0.0);
+    if (unknown >= shape.order) return answer(asked, 14, 0, 0.0);
+    size_t bad = first_entry_not_finite(layout, shape, unknown, matrix);
+    if (bad < length) return answer(asked, 7, bad, 0.0);
+    size_t low = first_not_above_zero(layout, shape, unknown, matrix);
+    if (low < shape.order) return answer(asked, 9, low, 0.0);
+    size_t rest = shape.order - unknown;
+    double *l = load(layout, shape, unknown, matrix);
+    double *y = calloc(rest, sizeof *y);
+    y[0] = 1.0;
+    metsovary_result r = substitute(rest, l, y) ? answer(asked, 0, 0, y[0]) : answer(asked, 12, 0, 0.0);
     free(y);
     free(l);
     clear(work, needed_work(asked));
@@ -363,6 +410,17 @@ metsovary_result compare_solve(enum layout layout, metsovary_shape shape, uint64
     compared(layout == PACKED ? "solve_plain" : "solve_blocked", shape, got, wanted, memory_same(a, matrix) && memory_same(s, x) && memory_same(w, work));
     memory_free(a);
     memory_free(s);
+    memory_free(w);
+    return got;
+}
+
+metsovary_result compare_variance(enum layout layout, metsovary_shape shape, uint64_t unknown, memory matrix, memory work) {
+    memory a = memory_copy(matrix), w = memory_copy(work);
+    metsovary_result wanted = reference_variance(layout, shape, unknown, a.values, a.length, w.values, w.length);
+    metsovary_result got = layout == PACKED ? metsovary_variance_plain(shape, unknown, matrix.values, matrix.length, work.values, work.length)
+                                            : metsovary_variance_blocked(shape, unknown, matrix.values, matrix.length, work.values, work.length);
+    compared(layout == PACKED ? "variance_plain" : "variance_blocked", shape, got, wanted, memory_same(a, matrix) && memory_same(w, work));
+    memory_free(a);
     memory_free(w);
     return got;
 }

@@ -1,4 +1,4 @@
-/* Another implementation of the six calls, by document 01's formulas and naive loops, with the processor's square root; and guarded memory to compare all of it. */
+/* Another implementation of the eight calls, by document 01's formulas and naive loops, with the processor's square root; and guarded memory to compare all of it. */
 #ifndef REFERENCE_H
 #define REFERENCE_H
 
@@ -19,6 +19,7 @@ size_t place(enum layout, metsovary_shape, size_t i, size_t j);
 metsovary_result reference_rearrange(enum layout from, enum layout to, metsovary_shape, double *matrix, size_t, double *work, size_t);
 metsovary_result reference_factor(enum layout, metsovary_shape, double *matrix, size_t, double *work, size_t);
 metsovary_result reference_solve(enum layout, metsovary_shape, uint64_t m, const double *matrix, size_t, double *x, size_t, double *work, size_t);
+metsovary_result reference_variance(enum layout, metsovary_shape, uint64_t unknown, const double *matrix, size_t, double *work, size_t);
 
 /* ---- memory with guards on both sides ---- */
 
@@ -54,5 +55,6 @@ typedef metsovary_result (*matrix_call)(metsovary_shape, double *, size_t, doubl
 metsovary_result compare_rearrange(enum layout from, enum layout to, metsovary_shape, memory matrix, memory work);
 metsovary_result compare_factor(enum layout, metsovary_shape, memory matrix, memory work);
 metsovary_result compare_solve(enum layout, metsovary_shape, uint64_t m, memory matrix, memory x, memory work);
+metsovary_result compare_variance(enum layout, metsovary_shape, uint64_t unknown, memory matrix, memory work);
 
 #endif
