@@ -10,15 +10,15 @@ use lib.ListN.{length, getD, take, drop, length-take, length-drop}
 use lib.Seq.{getD-take, getD-drop}
 use lib.Ieee.{Float, nan}
 use Rattle.binary64.specs.Kinds.{finite, zero64}
-use Rattle.shape.specs.Places.{triangle, packedPlace, blockOf, blockStart, width, placeInBlock, blockedPlace}
+use Rattle.shape.specs.Places.{triangle, blockOf, blockStart, width, placeInBlock, blockedPlace}
 use Rattle.shape.specs.Layouts.{Entry, Bijection}
 use Rattle.shape.proofs.Parts.{starts-mono}
 use Rattle.shape.proofs.Rows.{rowLength, place-in-block-row, place-in-block-next-row}
-use Rattle.shape.proofs.Columns.{triangle-rest, packed-place-column, packed-place-at}
-use Rattle.shape.proofs.Bounds.{block-start-mono, block-start-le}
+use Rattle.shape.proofs.Columns.{triangle-rest}
+use Rattle.shape.proofs.Bounds.{block-start-le}
 use Rattle.shape.proofs.Blocks.{block-of-le, block-of-block, block-end, width-le, width-le-block, column-in-width, blocked-place-at, first-next}
 use Rattle.shape.proofs.Runs.{blocked-place-from}
-use Rattle.shape.proofs.Bijections.{packed-bijection, blocked-bijection}
+use Rattle.shape.proofs.Bijections.{blocked-bijection}
 use Rattle.calls.specs.declared.Verdict.{Verdict}
 use Rattle.calls.specs.Refusals.{success, accepted, refusal, refuseIf, finiteRule}
 use Rattle.calls.specs.Variances.{columnsFrom}
@@ -180,24 +180,24 @@ module _ (place : ℕ → ℕ → ℕ) (n k : ℕ) (bij : Bijection place n) (ma
       let at : place (d + from .0) (d + from .1) ≡ p = omega (arith, parts (from .0) (from .1) (from .2), from .3) in
       rw at at (columns-after place n k bij matrix whole (d + from .0) (d + from .1) e (omega arith))
 
--- packed: all values from column k on
-module _ (n k : ℕ) (fits : k ≤ n) (matrix : List Float) (whole : length matrix ≡ triangle n) where
-  pub packed-decides : finitePart (blockStart n k) (length matrix) matrix ≡ finiteRule 7 (columnsFrom k (packedPlace n) n matrix)
-  packed-decides =
-      let bij : Bijection (packedPlace n) n = packed-bijection n in
-      let size : length (columnsFrom k (packedPlace n) n matrix) ≡ length matrix = length-columns (packedPlace n) n k bij matrix whole ∙ sym whole in
-      rw size at
-      (rest-decides (columnsFrom k (packedPlace n) n matrix) matrix (blockStart n k)
-      (before-columns (packedPlace n) n k bij matrix whole (blockStart n k) (block-start-le n k fits)
-      (λ i j e low.
-      omega (
-        arith,
-        packed-place-column n i j (e .lower) (omega (arith, e .lower, e .inside)),
-        block-start-mono n k j low (omega (arith, e .lower, e .inside)),
-      )))
-      (λ p after inside.
-      columns-rest (packedPlace n) n k bij matrix whole (packedPlace (n - k)) k (omega arith) fits (packed-bijection (n - k)) (packed-place-at n k) p after
-      (omega (arith, length-columns (packedPlace n) n k bij matrix whole))))
+-- where they are a triangle of order n − k: all values that follow
+pub rest-judged :
+    (place place′ : ℕ → ℕ → ℕ) (n k : ℕ) → k ≤ n → Bijection place n → Bijection place′ (n - k) →
+    ((i j : ℕ) → Entry (n - k) i j → place (k + i) (k + j) ≡ blockStart n k + place′ i j) → (matrix : List Float) → length matrix ≡ triangle n →
+    finitePart (blockStart n k) (length matrix) matrix ≡ finiteRule 7 (columnsFrom k place n matrix)
+rest-judged place place′ n k fits bij bij′ parts matrix whole =
+    let size : length (columnsFrom k place n matrix) ≡ length matrix = length-columns place n k bij matrix whole ∙ sym whole in
+    rw size at
+    (rest-decides (columnsFrom k place n matrix) matrix (blockStart n k)
+    (before-columns place n k bij matrix whole (blockStart n k) (block-start-le n k fits)
+    (λ i j e low.
+    let row : k + (i - k) ≡ i = omega (arith, e .lower) in
+    let column : k + (j - k) ≡ j = omega arith in
+    let at : place i j ≡ blockStart n k + place′ (i - k) (j - k) =
+    rw (row, column) at (parts (i - k) (j - k) (record { lower = omega (arith, e .lower); inside = omega (arith, e .inside, e .lower) })) in
+    omega (arith, at)))
+    (λ p after inside.
+    columns-rest place n k bij matrix whole place′ k (omega arith) fits bij′ parts p after (omega (arith, length-columns place n k bij matrix whole))))
 
 -- blocked: row by row in the block column that holds k, and then all values. Of row i the entry in column k is at `from`, and all values before the
 -- row are finite or not judged.

@@ -55,7 +55,8 @@ fn check_blocks_from(shape: Shape, k: usize, matrix: &[f64]) -> Verdict
     check_part(shape.block_start(end), matrix.len(), matrix)
 }
 
-// Rule 7 on the columns from k on. In packed order they are all that follows; a block column begins at the same place as its first column there.
+// Rule 7 on the columns from k on. In packed order they are all that follows, and in blocked order too where k is the first of a block column, which begins at
+// the same place as in packed order.
 fn check_columns_from(layout: Layout, shape: Shape, k: usize, matrix: &[f64]) -> Verdict
     requires { ⌜ (shape .order ≤ maxOrder) × (k < shape .order) ⌝ }
     requires { ⌜ (T (byBlocks (Call.Variance layout)) → 0 < shape .block) ⌝ }
@@ -64,7 +65,12 @@ fn check_columns_from(layout: Layout, shape: Shape, k: usize, matrix: &[f64]) ->
 {
     match layout {
         Layout::Packed => check_part(shape.block_start(k), matrix.len(), matrix),
-        Layout::Blocked => check_blocks_from(shape, k, matrix),
+        Layout::Blocked => {
+            if shape.block_of(k) == k {
+                return check_part(shape.block_start(k), matrix.len(), matrix);
+            }
+            check_blocks_from(shape, k, matrix)
+        }
     }
 }
 
