@@ -1,6 +1,6 @@
 -- Document 02, (a): the variance of unknown k, which is value k of the solution for a right-hand side that is 1 at k and +0 elsewhere. It is found as the
 -- first value of the solution with the trailing triangle, whose rows and columns are k or later, for a right-hand side whose first value is 1.
-use Prim.Native.Nat.{ℕ, _+_, _-_, _≤_, _<_}
+use Prim.Native.Nat.{ℕ, _-_, _≤_, _<_}
 use mathlib.Core.Path.{_≡_}
 use mathlib.Core.Logic.{_≢_}
 use mathlib.Core.Bool.{cond}
