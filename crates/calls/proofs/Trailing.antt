@@ -19,9 +19,9 @@ pub entry-from : (n k i j : ℕ) → Entry (n - k) i j → Entry n (k + i) (k + 
 entry-from n k i j e = record { lower = omega (arith, e .lower); inside = omega (arith, e .inside) }
 
 pub trailing-entry :
-    (place : ℕ → ℕ → ℕ) (n k : ℕ) (m : List Float) → k ≤ n →
-    (i j : ℕ) → Entry (n - k) i j → entry (loadFrom k place n m) i j ≡ entry (load place (height n) n m) (k + i) (k + j)
-trailing-entry place n k m fits i j e =
+    (place : ℕ → ℕ → ℕ) (n k : ℕ) (m : List Float) (i j : ℕ) → Entry (n - k) i j →
+    entry (loadFrom k place n m) i j ≡ entry (load place (height n) n m) (k + i) (k + j)
+trailing-entry place n k m i j e =
     entry-load (placeFrom k place) (n - k) m i j e ∙ sym (entry-load place n m (k + i) (k + j) (entry-from n k i j e))
 
 -- the trailing triangle from 0 on is the whole

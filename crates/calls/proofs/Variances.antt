@@ -339,7 +339,7 @@ module _ (layout : Layout) (shape : Shape) (k : ℕ) (matrix work : List Float) 
           varianceVerdict (order - k) (loadFrom k at order matrix)
           ≡ record { code = 0; place = 0; value = getD (solution order whole unit) k nan }
       solver-value =
-          trailing-verdict order k whole (loadFrom k at order matrix) inside (trailing-entry at order k matrix (omega arith))
+          trailing-verdict order k whole (loadFrom k at order matrix) inside (trailing-entry at order k matrix)
           (λ i j e. subst (λ x. T (finite x)) (sym (entry-load at order matrix i j e)) (finite-entry i j e))
           (λ j h. subst (λ x. T (positive x)) (sym (entry-load at order matrix j j (record { lower = omega arith; inside = h }))) (known .diagonal j h))
           (values .0) (values .1)

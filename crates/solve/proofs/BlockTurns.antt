@@ -147,7 +147,7 @@ module _ (n b k : ℕ) (block : Trailing) (pos : 0 < b) (inside : k < n) (held :
         rw place
         (block-agrees-from n first matrix b k (length matrix - blockStart n first) block (block-of-block b k pos) (held .skip) (held .w) room
         r s low le (omega arith)
-        ∙ sym (trailing-entry (blockedPlace n b) n k matrix (omega arith) r s here))
+        ∙ sym (trailing-entry (blockedPlace n b) n k matrix r s here))
 
     order-after : n - (k + block .w) ≡ n - k - block .w
     order-after = omega arith
@@ -159,7 +159,7 @@ module _ (n b k : ℕ) (block : Trailing) (pos : 0 < b) (inside : k < n) (held :
       forward-joined done e =
           forward-end (n - k) trailing work (returned (block .w) v v′)
           (forward-rest (n - k) (block .w) trailing after work v v′ (omega (arith, trailing-fits))
-          (trailing-again (blockedPlace n b) n k (block .w) matrix trailing-fits)
+          (trailing-again (blockedPlace n b) n k (block .w) matrix)
           (forward-first (n - k) (block .w) trailing work work v entries (omega (arith, trailing-fits)) trailing-agrees
           (forward-start (n - k) trailing work rows) (rw (held .h) at done))
           (e ∙ ap (λ m. forward m after (lent (block .w) v)) order-after))
@@ -171,6 +171,6 @@ module _ (n b k : ℕ) (block : Trailing) (pos : 0 < b) (inside : k < n) (held :
           backward-end (n - k) trailing work v′
           (backward-first (n - k) (block .w) trailing work (returned (block .w) work v) v′ entries (omega (arith, trailing-fits)) trailing-agrees
           (backward-rest (n - k) (block .w) trailing after work work v (omega (arith, trailing-fits))
-          (trailing-again (blockedPlace n b) n k (block .w) matrix trailing-fits) (backward-start (n - k) trailing work rows)
+          (trailing-again (blockedPlace n b) n k (block .w) matrix) (backward-start (n - k) trailing work rows)
           (e ∙ ap (λ m. backward m after (lent (block .w) work)) order-after))
           (rw (held .h) at done))

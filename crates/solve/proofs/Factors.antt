@@ -15,8 +15,8 @@ use Rattle.shape.proofs.Blocks.{width-le, width-le-block, blocked-place-at}
 use Rattle.shape.proofs.Runs.{blocked-place-from}
 use Rattle.shape.proofs.Bijections.{blocked-bijection}
 use Rattle.calls.specs.Triangles.{entry, height, load, placeFrom, loadFrom}
-use Rattle.calls.proofs.Triangles.{triangle-ext, shaped-load, entry-load, load-one}
-use Rattle.calls.proofs.Trailing.{trailing-entry}
+use Rattle.calls.proofs.Triangles.{load-alike, entry-load, load-one}
+use Rattle.calls.proofs.Trailing.{entry-from, trailing-entry}
 use Rattle.kernels.proofs.Parts.{getD-part}
 use Rattle.solve.specs.declared.blocked.Trailing.{Trailing}
 use Rattle.solve.specs.Substitution.{entriesAt, blockEntries}
@@ -93,20 +93,19 @@ one-column n b matrix one = rw one (sym (load-one n matrix))
 
 -- a part with the factor's entries from column k on
 trailing-part :
-    (place place′ : ℕ → ℕ → ℕ) (n k : ℕ) (matrix part : List Float) → k ≤ n →
+    (place place′ : ℕ → ℕ → ℕ) (n k : ℕ) (matrix part : List Float) →
     Agrees n k (n - k) (load place (height n) n matrix) (entriesAt place′ part) →
     load place′ (height (n - k)) (n - k) part ≡ loadFrom k place n matrix
-trailing-part place place′ n k matrix part fits agrees =
-    triangle-ext (n - k) (n - k) (load place′ (height (n - k)) (n - k) part) (loadFrom k place n matrix) (omega arith) (shaped-load place′ (n - k) part)
-    (shaped-load (placeFrom k place) (n - k) matrix)
-    (λ i j e h.
-    entry-load place′ (n - k) part i j e ∙ agrees i j h (e .lower) (omega (arith, e .inside)) ∙ sym (trailing-entry place n k matrix fits i j e))
+trailing-part place place′ n k matrix part agrees =
+    load-alike place′ (placeFrom k place) (n - k) part matrix
+    (λ i j e.
+    agrees i j (omega (arith, e .lower, e .inside)) (e .lower) (omega (arith, e .inside)) ∙ entry-load place n matrix (k + i) (k + j) (entry-from n k i j e))
 
 module _ (n k at : ℕ) (matrix : List Float) (fits : k ≤ n) (size : length matrix ≡ triangle n) (place : at ≡ blockStart n k) where
   pub packed-trailing : load (packedPlace (n - k)) (height (n - k)) (n - k) (lent at matrix) ≡ loadFrom k (packedPlace n) n matrix
   packed-trailing =
       rw place
-      (trailing-part (packedPlace n) (packedPlace (n - k)) n k matrix (lent (blockStart n k) matrix) fits
+      (trailing-part (packedPlace n) (packedPlace (n - k)) n k matrix (lent (blockStart n k) matrix)
       (packed-agrees n k matrix (length matrix - blockStart n k) (n - k) (omega arith) (omega (arith, triangle-rest n k fits))))
 
   -- from the first column of a block column on, or from the end
@@ -115,7 +114,7 @@ module _ (n k at : ℕ) (matrix : List Float) (fits : k ≤ n) (size : length ma
       load (blockedPlace (n - k) b) (height (n - k)) (n - k) (lent at matrix) ≡ loadFrom k (blockedPlace n b) n matrix
   blocked-trailing b pos whole =
       rw place
-      (trailing-part (blockedPlace n b) (blockedPlace (n - k) b) n k matrix (lent (blockStart n k) matrix) fits (agrees whole))
+      (trailing-part (blockedPlace n b) (blockedPlace (n - k) b) n k matrix (lent (blockStart n k) matrix) (agrees whole))
     where
       agrees :
           (k ≡ n) ⊎ (blockOf b k ≡ k) →
@@ -126,11 +125,11 @@ module _ (n k at : ℕ) (matrix : List Float) (fits : k ≤ n) (size : length ma
 
 -- the trailing triangle of a trailing triangle
 pub trailing-again :
-    (place : ℕ → ℕ → ℕ) (n k w : ℕ) (matrix : List Float) → k + w ≤ n → (i j : ℕ) → Entry (n - k - w) i j →
+    (place : ℕ → ℕ → ℕ) (n k w : ℕ) (matrix : List Float) (i j : ℕ) → Entry (n - k - w) i j →
     entry (loadFrom (k + w) place n matrix) i j ≡ entry (loadFrom k place n matrix) (w + i) (w + j)
-trailing-again place n k w matrix fits i j e =
+trailing-again place n k w matrix i j e =
     let here : Entry (n - (k + w)) i j = record { lower = e .lower; inside = omega (arith, e .inside) } in
     let there : Entry (n - k) (w + i) (w + j) = record { lower = omega (arith, e .lower); inside = omega (arith, e .inside) } in
-    trailing-entry place n (k + w) matrix fits i j here
+    trailing-entry place n (k + w) matrix i j here
     ∙ ap₂ (entry (load place (height n) n matrix)) (add-assoc k w i) (add-assoc k w j)
-    ∙ sym (trailing-entry place n k matrix (omega arith) (w + i) (w + j) there)
+    ∙ sym (trailing-entry place n k matrix (w + i) (w + j) there)
