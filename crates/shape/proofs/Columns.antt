@@ -139,6 +139,20 @@ pub packed-place-next-row : (n i j : ℕ) → packedPlace n (i + 1) j ≡ packed
 unfolding packedPlace
 packed-place-next-row n i j = omega arith
 
+pub packed-place-rows : (n first i j : ℕ) → first ≤ i → packedPlace n i j ≡ packedPlace n first j + (i - first)
+unfolding packedPlace
+packed-place-rows n first i j h = omega arith
+
+pub packed-place-next-column : (n i j : ℕ) → j < n → packedPlace n i (j + 1) ≡ packedPlace n i j + (n - j - 1)
+unfolding packedPlace
+packed-place-next-column n i j h =
+    omega (
+      arith,
+      packed-place-diagonal n j (omega arith),
+      packed-place-diagonal n (j + 1) (omega arith),
+      block-start-next n j h,
+    )
+
 pub packed-place-next-diagonal : (n j : ℕ) → j < n → packedPlace n (j + 1) (j + 1) ≡ packedPlace n j j + (n - j)
 packed-place-next-diagonal n j h =
     omega (

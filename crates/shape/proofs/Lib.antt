@@ -5,5 +5,6 @@ pub mod Rows
 pub mod Blocks
 pub mod Runs
 pub mod Bijections
+pub mod Rfp
 pub mod Bounds
 pub mod Examples

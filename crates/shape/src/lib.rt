@@ -4,7 +4,7 @@ ghost use mathlib.Core.Bool.{_&&_};
 ghost use Prim.Native.Nat.{_≤_, _<_, min};
 ghost use lib.Dec.{leb, ltb};
 ghost use Rattle.shape.specs.Bounds.{maxOrder, maxBlock, maxRhs};
-ghost use Rattle.shape.specs.Places.{triangle, packedPlace, blockOf, blockStart, width, placeInBlock, blockedPlace, blockWork};
+ghost use Rattle.shape.specs.Places.{triangle, packedPlace, blockOf, blockStart, width, placeInBlock, blockedPlace, blockWork, rfpRows, rfpColumns, rfpRow, rfpColumn, rfpPlace};
 ghost use Rattle.shape.specs.Layouts.{Entry};
 
 // Any numbers: the calls examine them. What a state's number means is said in crate calls.
@@ -131,5 +131,61 @@ impl Shape {
         ensures { λ r. ⌜ r ≡ blockWork (self .order) (self .block) ⌝ }
     {
         self.order * least(self.order, self.block)
+    }
+
+    // The rows and columns of the array that form 0 of rectangular full packed order is.
+    pub fn rfp_rows(self) -> usize
+        requires { ⌜ self .order ≤ maxOrder ⌝ }
+        ensures { λ r. ⌜ r ≡ rfpRows (self .order) ⌝ }
+    {
+        self.order + 1 - self.order % 2
+    }
+
+    pub fn rfp_columns(self) -> usize
+        requires { ⌜ self .order ≤ maxOrder ⌝ }
+        ensures { λ r. ⌜ r ≡ rfpColumns (self .order) ⌝ }
+    {
+        self.order / 2 + self.order % 2
+    }
+
+    // The position of entry (i, j) in it.
+    fn rfp_row(self, i: usize, j: usize) -> usize
+        requires { ⌜ self .order ≤ maxOrder ⌝ }
+        requires { ⌜ Entry (self .order) i j ⌝ }
+        ensures { λ r. ⌜ r ≡ rfpRow (self .order) i j ⌝ }
+    {
+        let columns = self.rfp_columns();
+        if j < columns {
+            i + 1 - self.order % 2
+        } else {
+            j - columns
+        }
+    }
+
+    fn rfp_column(self, i: usize, j: usize) -> usize
+        requires { ⌜ self .order ≤ maxOrder ⌝ }
+        requires { ⌜ Entry (self .order) i j ⌝ }
+        ensures { λ r. ⌜ r ≡ rfpColumn (self .order) i j ⌝ }
+    {
+        if j < self.rfp_columns() {
+            j
+        } else {
+            i - self.order / 2
+        }
+    }
+
+    // The place of entry (i, j) in rectangular full packed order; every form but 0 is taken as the transpose.
+    pub fn rfp_place(self, form: usize, i: usize, j: usize) -> usize
+        requires { ⌜ self .order ≤ maxOrder ⌝ }
+        requires { ⌜ Entry (self .order) i j ⌝ }
+        ensures { λ r. ⌜ r ≡ rfpPlace form (self .order) i j ⌝ }
+    {
+        let r = self.rfp_row(i, j);
+        let c = self.rfp_column(i, j);
+        if form == 0 {
+            c * self.rfp_rows() + r
+        } else {
+            r * self.rfp_columns() + c
+        }
     }
 }
