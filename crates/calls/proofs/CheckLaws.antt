@@ -21,7 +21,7 @@ use Rattle.calls.specs.Sequences.{all}
 use Rattle.calls.specs.Triangles.{Triangle, placeOf}
 use Rattle.calls.specs.Arithmetic.{forward}
 use Rattle.calls.specs.States.{next, suits}
-use Rattle.calls.specs.Refusals.{success, accepted, refusal, refuseIf, firstRefusal, lowestRefusal, byBlocks, neededWork, rule1, rule2, rule15, rule3, rule4, rule14, rule5, rule6, rule7, rule8, finiteRule, rule9, rule12}
+use Rattle.calls.specs.Refusals.{success, accepted, refusal, refuseIf, firstRefusal, lowestRefusal, byBlocks, neededWork, rule1, rule2, rule17, rule15, rule3, rule4, rule14, rule5, rule6, rule7, rule8, finiteRule, rule9, rule12}
 use Rattle.calls.specs.Calls.{DoneAs, spends, resultOf, rearrangerChecks, factorChecks, solverChecks, factorize, rhsPart, solution, rhsVerdict}
 use Rattle.calls.proofs.Sequences.{all-of}
 use Rattle.calls.proofs.Refusals.{not-not, is-not-not, refuse-not, not-refused, first-accepted, lowest-success, lowest-same, lowest-accepted, refuse-holds, none-holds, first-holds, lowest-holds}
@@ -52,6 +52,10 @@ rule2-accepted call b h t =
     positive-of : (b : ℕ) → T (not (eqb b 0)) → 1 ≤ b
     positive-of zero h = absurd h
     positive-of (suc b) h = omega arith
+
+pub rule17-accepted : (form : ℕ) → T (accepted (rule17 form)) → form ≤ 1
+unfolding rule17
+rule17-accepted form h = nltb→le 1 form (not-refused (ltb 1 form) 16 0 zero64 h)
 
 pub rule15-accepted : (call : Call) (state : ℕ) → T (accepted (rule15 call state)) → T (suits (next call state))
 unfolding rule15
@@ -253,12 +257,19 @@ Keeps v = spends v ≡ false
 pub low-keeps : (code place : ℕ) → code < 10 → Keeps (refusal code place zero64)
 low-keeps code place h = rw (ne-eqb code 10 (λ e. omega arith), ne-eqb code 11 (λ e. omega arith), ne-eqb code 16 (λ e. omega arith)) refl
 
-pub sizes-keep : (call : Call) (shape : Shape) (ml wl : ℕ) (rest : List Verdict) → Keeps (firstRefusal rest) → Keeps (firstRefusal (sizeRules call shape ml wl ++ rest))
+pub rule15-keeps : (call : Call) (state : ℕ) → Keeps (rule15 call state)
 unfolding rule15
+rule15-keeps call state = refuse-holds Keeps refl (not (suits (next call state))) (refusal 15 0 zero64) refl
+
+pub rule17-keeps : (form : ℕ) → Keeps (rule17 form)
+unfolding rule17
+rule17-keeps form = refuse-holds Keeps refl (ltb 1 form) (refusal 17 0 zero64) refl
+
+pub sizes-keep : (call : Call) (shape : Shape) (ml wl : ℕ) (rest : List Verdict) → Keeps (firstRefusal rest) → Keeps (firstRefusal (sizeRules call shape ml wl ++ rest))
 sizes-keep call shape ml wl rest h =
     first-holds Keeps refl _ _ (rule1-holds Keeps refl low-keeps (shape .order))
     (first-holds Keeps refl _ _ (rule2-holds Keeps refl low-keeps call (shape .block))
-    (first-holds Keeps refl _ _ (refuse-holds Keeps refl (not (suits (next call (shape .state)))) (refusal 15 0 zero64) refl)
+    (first-holds Keeps refl _ _ (rule15-keeps call (shape .state))
     (first-holds Keeps refl _ _ (rule3-holds Keeps refl low-keeps (shape .order) ml)
     (first-holds Keeps refl _ _ (rule4-holds Keeps refl low-keeps call (shape .order) (shape .block) wl) h))))
 

@@ -1,4 +1,4 @@
--- When the rules before any work pass: rules 1 to 6 and 14 by numbers, rule 15 by the state, rule 7 on stored finite columns. Assumes nothing.
+-- When the rules before any work pass: rules 1 to 6, 14 and 17 by numbers, rule 15 by the state, rule 7 on stored finite columns. Assumes nothing.
 use Prim.Native.Nat.{ℕ, _*_, _≤_, _<_}
 use native.Mathlib.Omega.{arith}
 use mathlib.Core.Path.{_≡_, refl, ap, _∙_}
@@ -18,7 +18,7 @@ use Rattle.calls.specs.declared.Layout.{Layout}
 use Rattle.calls.specs.declared.Call.{Call}
 use Rattle.calls.specs.declared.Call.the-variants.{Rearranger, Factor}
 use Rattle.calls.specs.States.{next, suits}
-use Rattle.calls.specs.Refusals.{neededWork, byBlocks, success, refusal, refuseIf, firstRefusal, rule1, rule2, rule15, rule3, rule4, rule14, rule5, rule6, rule7}
+use Rattle.calls.specs.Refusals.{neededWork, byBlocks, success, refusal, refuseIf, firstRefusal, rule1, rule2, rule17, rule15, rule3, rule4, rule14, rule5, rule6, rule7}
 use Rattle.calls.specs.Calls.{clear, rearrangerChecks, factorChecks}
 use Rattle.calls.proofs.Refusals.{is-not-not, refuse-not, first-passes, finite-rule}
 
@@ -34,6 +34,10 @@ rule2-passes call b low high =
     go : (c : Bool) → refuseIf (c && (false || false)) (refusal 2 0 zero64) ≡ success
     go true = refl
     go false = refl
+
+pub rule17-passes : (form : ℕ) → form ≤ 1 → rule17 form ≡ success
+unfolding rule17
+rule17-passes form h = ap (λ c. refuseIf c (refusal 17 0 zero64)) (le-ltb 1 form h)
 
 pub rule15-passes : (call : Call) (state : ℕ) → T (suits (next call state)) → rule15 call state ≡ success
 unfolding rule15

@@ -10,7 +10,7 @@ use lib.Ieee.{Float, binary64, ofBits, toBits, mul, sub, div, lt}
 use Rattle.binary64.specs.Kinds.{kind, finite, positive}
 use Rattle.binary64.specs.Root.{root, squaresTo, exact}
 use Rattle.binary64.specs.Judged.{judged}
-use Rattle.shape.specs.Places.{triangle, packedPlace, blockedPlace, blockWork}
+use Rattle.shape.specs.Places.{triangle, packedPlace, blockedPlace, blockWork, rfpRows, rfpColumns, rfpRow, rfpColumn, rfpPlace}
 use Rattle.shape.specs.declared.Shape.{Shape}
 use Rattle.calls.specs.declared.CallResult.{CallResult}
 use Rattle.calls.specs.declared.Verdict.{Verdict}
@@ -21,11 +21,14 @@ use Rattle.calls.specs.declared.Layout.the-variants.{Packed, Blocked}
 use Rattle.calls.specs.Sequences.{iterate, grow, tabulate, all, every}
 use Rattle.calls.specs.Triangles.{entry, height, placeOf, load, storeColumn, store}
 use Rattle.calls.specs.Arithmetic.{minusProducts, pivot, quotient, below, factorColumn, cholesky, forward, backwardRows, backward}
-use Rattle.calls.specs.Refusals.{firstRefusal, lowestRefusal, rule1, rule2, rule15, rule3, rule4, rule14, rule5, rule6, finiteRule, rule9, rule11, weak, rule16, columnRules, columnVerdict, columnExact, rule12}
+use Rattle.calls.specs.Refusals.{firstRefusal, lowestRefusal, rule1, rule2, rule17, rule15, rule3, rule4, rule14, rule5, rule6, finiteRule, rule9, rule11, weak, rule16, columnRules, columnVerdict, columnExact, rule12}
 use Rattle.calls.specs.States.{stateNumber, lookUp}
 use Rattle.calls.specs.Calls.{Done, stateAfter, answer, clear, rearrangerChecks, moved, rearrange, factorChecks, columnsVerdict, columnsExact, factored, factorize, solverChecks, rhsPart, solution, rhsVerdict, solutions, solved, solve}
 use Rattle.calls.specs.Pipelines.{Ended, plainPipeline, blockedPipeline}
 use Rattle.calls.specs.Variances.{unitRhs, columnsFrom, varianceChecks, varianceVerdict, variance}
+use Rattle.calls.specs.declared.Conversion.{Conversion}
+use Rattle.calls.specs.declared.Conversion.the-variants.{PackedToRfp, RfpToPacked}
+use Rattle.calls.specs.Conversions.{converterChecks, convert}
 use Rattle.calls.proofs.FactorsBy.{factorizeBy}
 use Rattle.calls.proofs.Stepwise.{shapeIn, force, plainStepwise, plain-stepwise, blockedStepwise, blocked-stepwise}
 use Rattle.calls.proofs.WeakFirst.{overflowFirst}
@@ -243,6 +246,27 @@ unfolding memory holds gives sameShape
 varianceRefused layout n b k l work answer =
     let d = variance layout (factor layout n b) k (memory l) (memory work) in
     gives (d .result) answer && sameShape (d .result .shape) (factor layout n b) && holds (d .work) work
+
+-- conversion form n b source; what a target of infinities holds afterwards
+converts : Conversion → ℕ → ℕ → ℕ → List ℕ → List ℕ → Bool
+unfolding memory holds gives sameShape
+converts conversion form n b source after =
+    let d = convert conversion form (factor Packed n b) (memory source) (memory (map (λ p. infinity) source)) in
+    gives (d .result) success && sameShape (d .result .shape) (factor Packed n b) && holds (d .target) after
+
+-- both ways
+bothWays : ℕ → ℕ → List ℕ → List ℕ → Bool
+unfolding converts
+bothWays form n packed rfp = converts PackedToRfp form n n packed rfp && converts RfpToPacked form n n rfp packed
+
+-- Both refused by a check, with memories of any length: the result, and the shape and the target as they were.
+conversionRefused : ℕ → Shape → List ℕ → List ℕ → Answer → Bool
+unfolding memory holds gives sameShape
+conversionRefused form shape source target answer =
+    let d = convert PackedToRfp form shape (memory source) (memory target) in
+    let e = convert RfpToPacked form shape (memory source) (memory target) in
+    gives (d .result) answer && sameShape (d .result .shape) shape && holds (d .target) target
+    && gives (e .result) answer && sameShape (e .result .shape) shape && holds (e .target) target
 
 -- a call of a state, with the states from one on: the code that each gives, and the state returned
 statesAre : (ℕ → CallResult) → ℕ → List (ℕ × ℕ) → Bool
@@ -675,6 +699,44 @@ varianceRows =
     ∷ varies Blocked 2 2 1 (twoToMinus500 ∷ twoTo600 ∷ one ∷ []) (0, 0, one, false)
     ∷ []
 
+-- values that tell their places apart: subnormals 1, 2, .. in packed order
+pub conversionRows : List Bool
+unfolding converts bothWays conversionRefused statesAre memory
+conversionRows =
+    -- n 0, 1, 2 and 3, both forms
+    bothWays 0 0 [] []
+    ∷ bothWays 1 0 [] []
+    ∷ bothWays 0 1 (1 ∷ []) (1 ∷ [])
+    ∷ bothWays 1 1 (1 ∷ []) (1 ∷ [])
+    ∷ bothWays 0 2 (1 ∷ 2 ∷ 3 ∷ []) (3 ∷ 1 ∷ 2 ∷ [])
+    ∷ bothWays 1 2 (1 ∷ 2 ∷ 3 ∷ []) (3 ∷ 1 ∷ 2 ∷ [])
+    ∷ bothWays 0 3 (1 ∷ 2 ∷ 3 ∷ 4 ∷ 5 ∷ 6 ∷ []) (1 ∷ 2 ∷ 3 ∷ 6 ∷ 4 ∷ 5 ∷ [])
+    ∷ bothWays 1 3 (1 ∷ 2 ∷ 3 ∷ 4 ∷ 5 ∷ 6 ∷ []) (1 ∷ 6 ∷ 2 ∷ 4 ∷ 3 ∷ 5 ∷ [])
+    -- n 4, with values of other kinds
+    ∷ bothWays 0 4 (1 ∷ infinity ∷ minusZero ∷ 4 ∷ 5 ∷ 6 ∷ 7 ∷ notANumber ∷ minusInfinity ∷ 10 ∷ [])
+    (notANumber ∷ 1 ∷ infinity ∷ minusZero ∷ 4 ∷ minusInfinity ∷ 10 ∷ 5 ∷ 6 ∷ 7 ∷ [])
+    ∷ bothWays 1 4 (1 ∷ infinity ∷ minusZero ∷ 4 ∷ 5 ∷ 6 ∷ 7 ∷ notANumber ∷ minusInfinity ∷ 10 ∷ [])
+    (notANumber ∷ minusInfinity ∷ 1 ∷ 10 ∷ infinity ∷ 5 ∷ minusZero ∷ 6 ∷ 4 ∷ 7 ∷ [])
+    -- b is not judged
+    ∷ converts PackedToRfp 0 2 0 (1 ∷ 2 ∷ 3 ∷ []) (3 ∷ 1 ∷ 2 ∷ [])
+    ∷ converts RfpToPacked 1 2 201 (3 ∷ 1 ∷ 2 ∷ []) (1 ∷ 2 ∷ 3 ∷ [])
+    -- 17, any other form
+    ∷ conversionRefused 2 (raw Packed 1 1) (1 ∷ []) (2 ∷ []) (17, 0, 0, false)
+    ∷ conversionRefused 0x8000_0000_0000_0000 (factor Packed 1 1) (1 ∷ []) (2 ∷ []) (17, 0, 0, false)
+    -- 3, a wrong length of either memory
+    ∷ conversionRefused 0 (raw Packed 2 1) (1 ∷ 2 ∷ []) (4 ∷ 5 ∷ 6 ∷ []) (3, 0, 0, false)
+    ∷ conversionRefused 0 (raw Packed 2 1) (1 ∷ 2 ∷ 3 ∷ 4 ∷ []) (4 ∷ 5 ∷ 6 ∷ []) (3, 0, 0, false)
+    ∷ conversionRefused 1 (raw Packed 2 1) (1 ∷ 2 ∷ 3 ∷ []) (4 ∷ 5 ∷ []) (3, 0, 0, false)
+    ∷ conversionRefused 1 (raw Packed 2 1) (1 ∷ 2 ∷ 3 ∷ []) (4 ∷ 5 ∷ 6 ∷ 7 ∷ []) (3, 0, 0, false)
+    -- 1 before 17 before 15 before 3
+    ∷ conversionRefused 2 (raw Blocked 4001 1) (1 ∷ []) (2 ∷ []) (1, 0, 0, false)
+    ∷ conversionRefused 2 (raw Blocked 1 1) [] (2 ∷ 3 ∷ []) (17, 0, 0, false)
+    ∷ conversionRefused 0 (raw Blocked 1 1) (1 ∷ 2 ∷ []) (3 ∷ []) (15, 0, 0, false)
+    -- every state and one past the last: a packed matrix, raw or factored, whose state stays
+    ∷ statesAre (λ s. convert PackedToRfp 0 (shapeIn s 1 1) (memory (one ∷ [])) (memory (two ∷ [])) .result) 0 ((0, 0) ∷ (15, 1) ∷ (0, 2) ∷ (15, 3) ∷ (15, 4) ∷ (15, 5) ∷ [])
+    ∷ statesAre (λ s. convert RfpToPacked 1 (shapeIn s 1 1) (memory (one ∷ [])) (memory (two ∷ [])) .result) 0 ((0, 0) ∷ (15, 1) ∷ (0, 2) ∷ (15, 3) ∷ (15, 4) ∷ (15, 5) ∷ [])
+    ∷ []
+
 rows-hold : T (all (λ r. r) rows)
 unfolding rows rearrange rearrangerChecks moved factorize factorChecks factored columnsVerdict columnsExact solve solverChecks solved rhsVerdict rhsPart solution solutions clear firstRefusal lowestRefusal stateAfter lookUp rule1 rule2 rule15 rule3 rule4 rule5 rule6 finiteRule rule9 rule11 weak rule16 columnRules columnVerdict columnExact rule12 minusProducts pivot quotient below factorColumn cholesky forward backwardRows backward iterate grow tabulate all every entry height placeOf load storeColumn store kind finite positive root squaresTo exact judged triangle packedPlace blockedPlace blockWork toBits ofBits mul sub div lt
 rows-hold = tt
@@ -682,6 +744,10 @@ rows-hold = tt
 variances-hold : T (all (λ r. r) varianceRows)
 unfolding varianceRows variance varianceChecks varianceVerdict columnsFrom unitRhs solve solverChecks solved rhsVerdict rhsPart solution solutions clear firstRefusal lowestRefusal stateAfter lookUp rule1 rule2 rule15 rule3 rule4 rule14 rule5 rule6 finiteRule rule9 rule12 minusProducts forward backwardRows backward iterate grow tabulate all every entry height placeOf load storeColumn store kind finite positive triangle packedPlace blockedPlace blockWork toBits ofBits mul sub div lt
 variances-hold = tt
+
+conversions-hold : T (all (λ r. r) conversionRows)
+unfolding conversionRows convert converterChecks firstRefusal stateAfter lookUp rule1 rule2 rule17 rule15 rule3 iterate grow tabulate all height load storeColumn store triangle packedPlace rfpRows rfpColumns rfpRow rfpColumn rfpPlace toBits ofBits
+conversions-hold = tt
 
 stepwise-hold : T (all (λ r. r) (pipelineRows plainStepwise blockedStepwise))
 unfolding pipelineRows plainStepwise blockedStepwise force rearrange rearrangerChecks moved factorize factorChecks factored columnsVerdict columnsExact solve solverChecks solved rhsVerdict rhsPart solution solutions clear firstRefusal lowestRefusal stateAfter lookUp rule1 rule2 rule15 rule3 rule4 rule5 rule6 finiteRule rule9 rule11 weak rule16 columnRules columnVerdict columnExact rule12 minusProducts pivot quotient below factorColumn cholesky forward backwardRows backward iterate grow tabulate all every entry height placeOf load storeColumn store kind finite positive root squaresTo exact judged triangle packedPlace blockedPlace blockWork toBits ofBits mul sub div lt
@@ -693,10 +759,13 @@ plain-is = fun-ext (λ n. fun-ext (λ b. fun-ext (λ m. fun-ext (λ matrix. fun-
 blocked-is : blockedStepwise ≡ blockedPipeline
 blocked-is = fun-ext (λ n. fun-ext (λ b. fun-ext (λ m. fun-ext (λ matrix. fun-ext (λ rhs. fun-ext (λ work. blocked-stepwise n b m matrix rhs work))))))
 
-pub examples-hold : T (all (λ r. r) rows) × T (all (λ r. r) varianceRows) × T (all (λ r. r) (pipelineRows plainPipeline blockedPipeline))
+pub examples-hold :
+    T (all (λ r. r) rows) × T (all (λ r. r) varianceRows) × T (all (λ r. r) conversionRows)
+    × T (all (λ r. r) (pipelineRows plainPipeline blockedPipeline))
 examples-hold = (
   rows-hold,
   variances-hold,
+  conversions-hold,
   subst (λ (p : Pipeline). T (all (λ r. r) (pipelineRows p blockedPipeline))) plain-is
       (subst (λ (p : Pipeline). T (all (λ r. r) (pipelineRows plainStepwise p))) blocked-is stepwise-hold),
 )

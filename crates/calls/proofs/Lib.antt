@@ -14,6 +14,7 @@ pub mod Entries
 pub mod Trailing
 pub mod ColumnsFrom
 pub mod Variances
+pub mod Conversions
 pub mod Pivots
 pub mod Exactness
 pub mod FactorsBy

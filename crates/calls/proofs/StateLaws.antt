@@ -2,22 +2,25 @@
 use Prim.Native.Nat.{ℕ, _≤_, _<_}
 use native.Mathlib.Omega.{arith}
 use mathlib.Core.Path.{_≡_, refl, sym, ap, _∙_}
-use mathlib.Core.Bool.{Bool, true, false}
+use mathlib.Core.Bool.{Bool, true, false, cond}
+use mathlib.Core.List.{List, [], _∷_, map}
 use borrow.Author.Tests.{ne-eqb}
-use lib.Dec.{T, eqb}
+use lib.Dec.{T, eqb, eqb→eq}
 use lib.Ieee.Bits.{is-true}
+use Rattle.shape.specs.declared.Shape.{Shape}
 use Rattle.calls.specs.declared.Verdict.{Verdict}
 use Rattle.calls.specs.declared.Layout.{Layout}
 use Rattle.calls.specs.declared.Layout.the-variants.{Packed, Blocked}
 use Rattle.calls.specs.declared.Call.{Call}
-use Rattle.calls.specs.declared.Call.the-variants.{Rearranger, Factor, Solver, Variance}
+use Rattle.calls.specs.declared.Call.the-variants.{Rearranger, Factor, Solver, Variance, Converter}
 use Rattle.calls.specs.declared.states.State.{State}
 use Rattle.calls.specs.declared.states.State.the-variants.{Raw, Factored, Spent}
-use Rattle.calls.specs.declared.states.Transition.the-variants.{Unsuited}
+use Rattle.calls.specs.declared.states.Transition.{Transition}
+use Rattle.calls.specs.declared.states.Transition.the-variants.{Gives, Unsuited}
 use Rattle.calls.specs.Triangles.{Triangle}
 use Rattle.calls.specs.States.{stateNumber, lookUp, next, givenBy}
 use Rattle.calls.specs.Refusals.{accepted, columnVerdict}
-use Rattle.calls.specs.Calls.{spends, stateAfter, judgeColumn, columnsVerdict}
+use Rattle.calls.specs.Calls.{spends, stateAfter, resultOf, judgeColumn, columnsVerdict}
 use Rattle.calls.proofs.Refusals.{Lowest, lowest-refused}
 use Rattle.calls.proofs.ColumnRules.{rules-spend}
 
@@ -39,6 +42,7 @@ past-last (Rearranger from to) state h = rw (other (Raw from) state h, other (Fa
 past-last (Factor layout) state h = rw (other (Raw layout) state h) refl
 past-last (Solver layout) state h = rw (other (Factored layout) state h) refl
 past-last (Variance layout) state h = rw (other (Factored layout) state h) refl
+past-last Converter state h = rw (other (Raw Packed) state h, other (Factored Packed) state h) refl
 
 -- ---- by the verdict
 
@@ -54,6 +58,29 @@ module _ (call : Call) (state : ℕ) (v : Verdict) where
   pub state-kept : accepted v ≡ false → spends v ≡ false → stateAfter call state v ≡ state
   unfolding stateAfter
   state-kept e s = rw (e, s) refl
+
+-- ---- a call that gives each state that it wants returns the shape that it was handed, but where the matrix is spent
+
+pub given-same : (wanted : List State) (state : ℕ) → givenBy (lookUp (map (λ s. (s, s)) wanted) state) state ≡ state
+unfolding lookUp
+given-same [] state = refl
+given-same (s ∷ wanted) state = go (eqb state (stateNumber s)) refl (given-same wanted state)
+  where
+    rest : Transition
+    rest = lookUp (map (λ t. (t, t)) wanted) state
+
+    go : (b : Bool) → eqb state (stateNumber s) ≡ b → givenBy rest state ≡ state → givenBy (cond b (Gives s) rest) state ≡ state
+    go true e ih = sym (eqb→eq state (stateNumber s) (rw e tt))
+    go false e ih = ih
+
+pub shape-same :
+    (call : Call) (shape : Shape) (v : Verdict) → givenBy (next call (shape .state)) (shape .state) ≡ shape .state → spends v ≡ false →
+    resultOf call shape v .shape ≡ shape
+shape-same call shape v given s = ap (λ state. record { order = shape .order; block = shape .block; state = state }) (go (accepted v) refl)
+  where
+    go : (b : Bool) → accepted v ≡ b → stateAfter call (shape .state) v ≡ shape .state
+    go true e = state-given call (shape .state) v (rw e tt) ∙ given
+    go false e = state-kept call (shape .state) v e s
 
 -- a solver gives the factor that it wants
 pub solver-keeps : (layout : Layout) (v : Verdict) → spends v ≡ false → stateAfter (Solver layout) (stateNumber (Factored layout)) v ≡ stateNumber (Factored layout)

@@ -8,7 +8,7 @@ use mathlib.Core.Logic.{_≢_}
 use mathlib.Core.Bool.{Bool, true, false, cond, not, _&&_}
 use mathlib.Core.List.{List, [], _∷_, _++_}
 use borrow.Author.Tests.{eq-eqb, ne-eqb}
-use lib.Dec.{T, eqb, ltb, eqb→eq}
+use lib.Dec.{T, eqb, ltb}
 use lib.ListN.{length, getD, drop, List·getD-append}
 use lib.Seq.{take-all}
 use lib.Ieee.{Float, nan, binary64, fits, sub, mul, div}
@@ -26,11 +26,10 @@ use Rattle.calls.specs.declared.Layout.{Layout}
 use Rattle.calls.specs.declared.Layout.the-variants.{Packed, Blocked}
 use Rattle.calls.specs.declared.Call.the-variants.{Solver, Variance}
 use Rattle.calls.specs.declared.states.State.the-variants.{Factored}
-use Rattle.calls.specs.declared.states.Transition.the-variants.{Gives, Unsuited}
 use Rattle.calls.specs.Sequences.{iterate, all}
 use Rattle.calls.specs.Triangles.{Triangle, entry, height, placeOf, placeFrom, load, loadFrom, store}
 use Rattle.calls.specs.Arithmetic.{minusProducts, forward}
-use Rattle.calls.specs.States.{stateNumber, lookUp, next, givenBy}
+use Rattle.calls.specs.States.{lookUp, next, givenBy}
 use Rattle.calls.specs.Refusals.{byBlocks, success, accepted, refusal, refuseIf, firstRefusal, lowestRefusal, rule2, rule15, rule4, rule14, finiteRule, rule7, rule9, rule12}
 use Rattle.calls.specs.Calls.{Done, Solved, stateAfter, resultOf, answer, succeeded, clear, moved, solverChecks, rhsPart, solution, rhsVerdict, solutions, solved, solve}
 use Rattle.calls.specs.Pipelines.{Start}
@@ -38,7 +37,7 @@ use Rattle.calls.specs.Variances.{unitRhs, columnsFrom, varianceChecks, 
 use Rattle.calls.proofs.Sequences.{length-tabulate, getD-tabulate, all-at, all-of, rising}
 use Rattle.calls.proofs.Triangles.{load-alike, entry-load, length-store, store-same}
 use Rattle.calls.proofs.Refusals.{cond-both, not-not, not-refused, first-passes, first-refused, first-accepted, lowest-same, Lowest, lowest-refused, finite-rule, refuse-holds, none-holds, first-holds}
-use Rattle.calls.proofs.StateLaws.{state-given, state-kept, factor-state}
+use Rattle.calls.proofs.StateLaws.{given-same, shape-same, factor-state}
 use Rattle.calls.proofs.Judging.{first-part, first-same, first-continued}
 use Rattle.calls.proofs.Checks.{rule14-passes, Sizes, sizeRules, sizes-pass, length-clear}
 use Rattle.calls.proofs.CheckLaws.{rule14-accepted, rule14-refused, finiteAt, refused-at, finite-accepted, positiveAt, rule9-alone, rule9-passes, SizesAccepted, SolverAccepted, sizes-accepted, solver-accepted, rule9-holds, finite-holds, Keeps, low-keeps, sizes-keep}
@@ -177,21 +176,6 @@ variance-checks-keep layout shape k matrix wl =
 
 -- ---- the shape comes back as it was handed in, whatever the call answers
 
-given-same : (layout : Layout) (state : ℕ) → givenBy (next (Variance layout) state) state ≡ state
-unfolding lookUp
-given-same layout state = go (eqb state (stateNumber (Factored layout))) refl
-  where
-    go : (b : Bool) → eqb state (stateNumber (Factored layout)) ≡ b → givenBy (cond b (Gives (Factored layout)) Unsuited) state ≡ state
-    go true e = sym (eqb→eq state (stateNumber (Factored layout)) (rw e tt))
-    go false e = refl
-
-state-same : (layout : Layout) (state : ℕ) (v : Verdict) → Keeps v → stateAfter (Variance layout) state v ≡ state
-state-same layout state v k = go (accepted v) refl
-  where
-    go : (b : Bool) → accepted v ≡ b → stateAfter (Variance layout) state v ≡ state
-    go true e = state-given (Variance layout) state v (rw e tt) ∙ given-same layout state
-    go false e = state-kept (Variance layout) state v e k
-
 verdict-keeps : (p : ℕ) (l : Triangle) → Keeps (varianceVerdict p l)
 unfolding varianceVerdict rule12
 verdict-keeps p l = cond-both Keeps (accepted refused) _ refused refl (refuse-holds Keeps refl (not finites) (refusal 12 0 zero64) refl)
@@ -211,7 +195,7 @@ variance-shape layout shape k matrix work =
     (same (varianceChecks layout shape k matrix (length work)) (variance-checks-keep layout shape k matrix (length work)))
   where
     same : (v : Verdict) → Keeps v → resultOf (Variance layout) shape v .shape ≡ shape
-    same v h = ap (λ s. record { order = shape .order; block = shape .block; state = s }) (state-same layout (shape .state) v h)
+    same v h = shape-same (Variance layout) shape v (given-same (Factored layout ∷ []) (shape .state)) h
 
 -- ---- which entries are read
 

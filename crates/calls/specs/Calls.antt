@@ -15,7 +15,7 @@ use Rattle.calls.specs.declared.CallResult.{CallResult}
 use Rattle.calls.specs.Sequences.{iterate, every}
 use Rattle.calls.specs.declared.Layout.{Layout}
 use Rattle.calls.specs.declared.Layout.the-variants.{Packed, Blocked}
-use Rattle.calls.specs.Triangles.{Triangle, placeOf, height, load, store}
+use Rattle.calls.specs.Triangles.{Triangle, placeOf, height, load, store, transfer}
 use Rattle.calls.specs.Arithmetic.{cholesky, forward, backward}
 use Rattle.calls.specs.declared.Call.{Call}
 use Rattle.calls.specs.declared.Call.the-variants.{Rearranger, Factor, Solver}
@@ -91,7 +91,7 @@ rearrangerChecks from to shape matrixLength workLength =
 
 -- every entry moves from its place in one layout to its place in the other
 unfoldable pub moved : Layout → Layout → ℕ → ℕ → List Float → List Float
-moved from to n b matrix = store (placeOf to n b) (load (placeOf from n b) (height n) n matrix) matrix
+moved from to n b matrix = transfer (placeOf from n b) (placeOf to n b) n matrix matrix
 
 unfoldable pub rearrange : Layout → Layout → Shape → List Float → List Float → Done
 rearrange from to shape matrix work =

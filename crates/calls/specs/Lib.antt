@@ -8,3 +8,4 @@ pub mod Judgements
 pub mod Calls
 pub mod Pipelines
 pub mod Variances
+pub mod Conversions

@@ -15,7 +15,7 @@ use Rattle.shape.specs.Places.{triangle, blockWork}
 use Rattle.calls.specs.declared.Verdict.{Verdict}
 use Rattle.calls.specs.Sequences.{all}
 use Rattle.calls.specs.declared.Call.{Call}
-use Rattle.calls.specs.declared.Call.the-variants.{Rearranger, Factor, Solver, Variance}
+use Rattle.calls.specs.declared.Call.the-variants.{Rearranger, Factor, Solver, Variance, Converter}
 use Rattle.calls.specs.declared.Layout.the-variants.{Packed, Blocked}
 use Rattle.calls.specs.Triangles.{Triangle, entry}
 use Rattle.calls.specs.Arithmetic.{pivot, below}
@@ -44,8 +44,8 @@ unfoldable pub lowestRefusal : (ℕ → Verdict) → ℕ → Verdict
 lowestRefusal judge zero = success
 lowestRefusal judge (suc k) = let before = lowestRefusal judge k in cond (accepted before) (judge k) before
 
--- A call is a rearranger from one layout to another, or the factor, the solver or the variance of a layout; document 01's plain calls are those of the
--- packed layout.
+-- A call is a rearranger from one layout to another, the factor, the solver or the variance of a layout, or a converter; document 01's plain calls are
+-- those of the packed layout.
 abbrev pub byBlocks : Call → Bool
 byBlocks (Rearranger from to) = true
 byBlocks (Factor Packed) = false
@@ -54,6 +54,7 @@ byBlocks (Solver Packed) = false
 byBlocks (Solver Blocked) = true
 byBlocks (Variance Packed) = false
 byBlocks (Variance Blocked) = true
+byBlocks Converter = false
 
 abbrev pub neededWork : Call → ℕ → ℕ → ℕ
 neededWork (Rearranger from to) n b = blockWork n b
@@ -61,6 +62,7 @@ neededWork (Factor Packed) n b = n
 neededWork (Factor Blocked) n b = blockWork n b
 neededWork (Solver layout) n b = n
 neededWork (Variance layout) n b = n
+neededWork Converter n b = 0
 
 -- 1. n is over 4,000.
 unfoldable pub rule1 : ℕ → Verdict
@@ -70,11 +72,15 @@ rule1 n = refuseIf (ltb maxOrder n) (refusal 1 0 zero64)
 unfoldable pub rule2 : Call → ℕ → Verdict
 rule2 call b = refuseIf (byBlocks call && (eqb b 0 || ltb maxBlock b)) (refusal 2 0 zero64)
 
+-- 17. The form is neither 0 nor 1.
+unfoldable pub rule17 : ℕ → Verdict
+rule17 form = refuseIf (ltb 1 form) (refusal 17 0 zero64)
+
 -- 15. The state does not suit the call.
 unfoldable pub rule15 : Call → ℕ → Verdict
 rule15 call state = refuseIf (not (suits (next call state))) (refusal 15 0 zero64)
 
--- 3. The matrix memory is not exactly n(n + 1)/2 values.
+-- 3. The matrix memory is not exactly n(n + 1)/2 values; of a converter, either memory.
 unfoldable pub rule3 : ℕ → ℕ → Verdict
 rule3 n matrixLength = refuseIf (not (eqb matrixLength (triangle n))) (refusal 3 0 zero64)
 

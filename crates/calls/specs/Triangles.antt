@@ -41,3 +41,7 @@ storeColumn place j column memory = iterate (λ r m. set m (place (j + r) j) (ge
 
 unfoldable pub store : (ℕ → ℕ → ℕ) → Triangle → List Float → List Float
 store place t memory = iterate (λ j m. storeColumn place j (getD t j []) m) (length t) memory
+
+-- the lower triangle of order n that a source holds by one layout, written over a target by another
+abbrev pub transfer : (ℕ → ℕ → ℕ) → (ℕ → ℕ → ℕ) → ℕ → List Float → List Float → List Float
+transfer from to n source target = store to (load from (height n) n source) target

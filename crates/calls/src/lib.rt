@@ -20,12 +20,19 @@ pub enum Layout {
     Blocked,
 }
 
-// A rearranger moves a matrix from one layout to another.
+// A rearranger moves a matrix from one layout to another, a converter from one memory to another.
 pub enum Call {
     Rearranger(Layout, Layout),
     Factor(Layout),
     Solver(Layout),
     Variance(Layout),
+    Converter,
+}
+
+// Between packed memory and rectangular full packed memory.
+pub enum Conversion {
+    PackedToRfp,
+    RfpToPacked,
 }
 
 // What the rules answer: a code, a place and a value, which are 0, 0 and +0 where none refuses; the answer of a variance call has its value there.

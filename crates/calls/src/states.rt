@@ -61,6 +61,16 @@ pub fn next(call: Call, state: usize) -> Transition
         Call::Factor(layout) => row(state, State::Raw(layout), State::Factored(layout)),
         Call::Solver(layout) => row(state, State::Factored(layout), State::Factored(layout)),
         Call::Variance(layout) => row(state, State::Factored(layout), State::Factored(layout)),
+        Call::Converter => {
+            if state == state_number(State::Raw(Layout::Packed)) {
+                return Transition::Gives(State::Raw(Layout::Packed));
+            }
+            row(
+                state,
+                State::Factored(Layout::Packed),
+                State::Factored(Layout::Packed),
+            )
+        }
     }
 }
 

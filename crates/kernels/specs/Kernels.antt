@@ -1,4 +1,4 @@
--- What the loops over values promise. Of a matrix they know only where blocked order keeps a row.
+-- What the loops over values promise. Of a matrix they know only where blocked order keeps a row, and the packed places of one.
 use Prim.Native.Nat.{ℕ, _+_, _-_, _*_, _≤_, _<_}
 use mathlib.Core.Path.{_≡_}
 use mathlib.Core.Logic.{_≢_}

@@ -1,2 +1,3 @@
 -- What the loops over values promise.
 pub mod Kernels
+pub mod Transfers

@@ -1,9 +1,12 @@
 // Loops over values: copies, and products subtracted one by one, for one value or for 8 at once, which are independent, so that the machine works on
-// several while each keeps its order. For 16 see lanes.rt; tiles.rt and columns.rt know besides where blocked order keeps a row.
+// several while each keeps its order. For 16 see lanes.rt; tiles.rt and columns.rt know besides where blocked order keeps a row, and
+// `packed_places8` where packed order does.
 ghost use mathlib.Core.Path.{_≡_};
 ghost use Prim.Native.Nat.{ℕ, _+_, _≤_, _<_};
 ghost use lib.ListN.{length, getD, set};
 ghost use lib.Ieee.{nan, binary64, sub, mul, div};
+ghost use Rattle.shape.specs.Bounds.{maxOrder};
+ghost use Rattle.shape.specs.Places.{packedPlace};
 ghost use Rattle.calls.specs.Arithmetic.{minusProducts};
 ghost use Rattle.kernels.specs.Kernels.{MultipleSubtracted, Filled, Replaced, Scattered, rowAt, risingFrom, fallingFrom};
 
@@ -20,6 +23,7 @@ pub use lanes::store_part16;
 pub use lanes::store16;
 pub use lanes::update_part16;
 pub use lanes::update16;
+use shape::Shape;
 pub use tiles::Run;
 pub use tiles::load_tile;
 pub use tiles::reduce_run;
@@ -151,29 +155,59 @@ pub fn load8(v: &[f64], at: usize) -> [f64; 8]
     values
 }
 
-pub fn store8(v: &mut [f64], at: usize, values: [f64; 8])
-    requires { ⌜ at + 8 ≤ length (now v) ⌝ }
-    ensures { λ _. ⌜ Replaced nan at 8 (now (v .entry)) values (now (v .exit)) ⌝ }
+// The first count of eight values, to position at on.
+pub fn store_part8(v: &mut [f64], at: usize, values: [f64; 8], count: usize)
+    requires { ⌜ (at + count ≤ length (now v)) × (count ≤ 8) ⌝ }
+    ensures { λ _. ⌜ Replaced nan at count (now (v .entry)) values (now (v .exit)) ⌝ }
 {
     let mut s = 0;
-    while s < 8 {
+    while s < count {
         v[at + s] = values[s];
         s += 1;
     }
 }
 
-// Eight values of x, one at each position at[s] + k.
-pub fn gather8(x: &[f64], at: [usize; 8], k: usize) -> [f64; 8]
-    requires { ⌜ ((s : ℕ) → s < 8 → getD at s 0 + k < length (now x)) ⌝ }
-    ensures { λ r. ⌜ ((s : ℕ) → s < 8 → getD r s nan ≡ getD (now (x .entry)) (getD at s 0 + k) nan) ⌝ }
+pub fn store8(v: &mut [f64], at: usize, values: [f64; 8])
+    requires { ⌜ at + 8 ≤ length (now v) ⌝ }
+    ensures { λ _. ⌜ Replaced nan at 8 (now (v .entry)) values (now (v .exit)) ⌝ }
+{
+    store_part8(v, at, values, 8);
+}
+
+// The first count of eight values of x, one at each position at[s] + k; the others are zeros.
+pub fn gather_part8(x: &[f64], at: [usize; 8], k: usize, count: usize) -> [f64; 8]
+    requires { ⌜ count ≤ 8 ⌝ }
+    requires { ⌜ ((s : ℕ) → s < count → getD at s 0 + k < length (now x)) ⌝ }
+    ensures { λ r. ⌜ ((s : ℕ) → s < count → getD r s nan ≡ getD (now (x .entry)) (getD at s 0 + k) nan) ⌝ }
 {
     let mut values = [0.0; 8];
     let mut s = 0;
-    while s < 8 {
+    while s < count {
         values[s] = x[at[s] + k];
         s += 1;
     }
     values
+}
+
+pub fn gather8(x: &[f64], at: [usize; 8], k: usize) -> [f64; 8]
+    requires { ⌜ ((s : ℕ) → s < 8 → getD at s 0 + k < length (now x)) ⌝ }
+    ensures { λ r. ⌜ ((s : ℕ) → s < 8 → getD r s nan ≡ getD (now (x .entry)) (getD at s 0 + k) nan) ⌝ }
+{
+    gather_part8(x, at, k, 8)
+}
+
+// The packed places of columns s .. s + count − 1 of row r; the others are zeros.
+pub fn packed_places8(shape: Shape, r: usize, s: usize, count: usize) -> [usize; 8]
+    requires { ⌜ (shape .order ≤ maxOrder) × (r < shape .order) × (s + count ≤ r + 1) × (count ≤ 8) ⌝ }
+    ensures { λ at. ⌜ ((k : ℕ) → k < count → getD at k 0 ≡ packedPlace (shape .order) r (s + k)) ⌝ }
+{
+    let mut places = [0; 8];
+    let mut k = 0;
+    while k < count {
+        places[k] = shape.packed_place(r, s + k);
+        k += 1;
+    }
+    places
 }
 
 // The same positions of v, which differ, are set to the values.

@@ -1,6 +1,6 @@
 -- The block columns of the whole matrix, moved one after another. What stands behind the moved ones is as it was, so that each is moved from
 -- its entry values; when all are moved the memory is that of the definition in `calls`. Assumes nothing.
-use mathlib.Core.Path.{_≡_, refl, sym, _∙_}
+use mathlib.Core.Path.{_≡_, refl, _∙_}
 use mathlib.Core.List.{List, _++_}
 use Prim.Native.Nat.{ℕ, zero, suc, _+_, _-_, _*_, _≤_, _<_, min}
 use native.Mathlib.Nat.{mul-le-mul}
@@ -15,10 +15,9 @@ use Rattle.shape.proofs.Columns.{block-start-double, block-start-split}
 use Rattle.shape.proofs.Blocks.{width-le}
 use Rattle.shape.proofs.Bounds.{block-start-le}
 use Rattle.calls.specs.declared.Layout.{Layout}
-use Rattle.calls.specs.Triangles.{placeOf, height, load}
+use Rattle.calls.specs.Triangles.{placeOf}
 use Rattle.calls.specs.Calls.{moved}
-use Rattle.calls.proofs.Triangles.{shaped-load, entry-load, store-same, memory-ext}
-use Rattle.calls.proofs.Rearranging.{layout-bijection, length-moved}
+use Rattle.calls.proofs.Rearranging.{layout-bijection, transfer-entries}
 use Rattle.kernels.specs.Kernels.{Replaced}
 use Rattle.kernels.proofs.Parts.{length-part, getD-part, part-replaced}
 use Rattle.rearrange.specs.Moves.{other, placeInPart, Sizes, MovedWithin}
@@ -163,12 +162,5 @@ pub moved-all : (to : Layout) (n b c : ℕ) (m m′ : List Float)
     → m′ ≡ moved (other to) to n b m
 unfolding moved
 moved-all to n b c m m′ positive all whole whole′ before =
-    let bijection = layout-bijection to n b positive in
-    let t = load (placeOf (other to) n b) (height n) n m in
-    memory-ext (placeOf to n b) n bijection m′ (moved (other to) to n b m) whole′ (length-moved (other to) to n b positive m whole)
-    (λ i j e.
-    before .moved i j e (omega (arith, e .lower, e .inside))
-    ∙ sym
-    (store-same (placeOf to n b) n bijection t n (shaped-load (placeOf (other to) n b) n m) m (omega arith) i j nan e
-    (omega (arith, e .lower, e .inside))
-    ∙ entry-load (placeOf (other to) n b) n m i j e))
+    transfer-entries (placeOf (other to) n b) (placeOf to n b) n (layout-bijection to n b positive) m m whole m′ whole′
+    (λ i j e. before .moved i j e (omega (arith, e .lower, e .inside)))

@@ -1,13 +1,11 @@
--- Laws of specs/Moves.antt: joining what was moved, moving one entry, a column or several columns of a row, and the way back from the work memory.
--- A move writes an entry's value at the entry's own place, so none that was moved before is lost. Assumes nothing.
+-- Laws of specs/Moves.antt: moving one entry, a column or several columns of a row, and the way back from the work memory. Assumes nothing.
 use mathlib.Core.Path.{_≡_, refl, _∙_}
 use mathlib.Core.List.{List, _++_}
 use Prim.Native.Nat.{ℕ, _+_, _-_, _≤_, _<_}
 use native.Mathlib.Nat.{zero-add}
-use native.Mathlib.Decide.{decLt, ℕ-discrete}
 use native.Mathlib.Omega.{arith}
 use lib.ListN.{length, getD, set, take, drop, length-set}
-use lib.Seq.{getD-set-same, getD-set-other, getD-take, length-take-le}
+use lib.Seq.{getD-take, length-take-le}
 use lib.Ieee.{Float, nan}
 use Rattle.shape.specs.Places.{packedPlace, blockStart, placeInBlock}
 use Rattle.shape.specs.Layouts.{Entry}
@@ -17,85 +15,28 @@ use Rattle.calls.specs.declared.Layout.{Layout}
 use Rattle.calls.specs.declared.Layout.the-variants.{Packed, Blocked}
 use Rattle.kernels.specs.Kernels.{Replaced}
 use Rattle.kernels.proofs.Parts.{prefix-replaced}
-use Rattle.rearrange.specs.Moves.{other, inLayout, placeInPart, Same, Sizes, Moved, MovedWithin}
+use Rattle.kernels.proofs.Transfers as Transfers
+use Rattle.kernels.proofs.Transfers.{moved-no-rows, join-rows}
+use Rattle.rearrange.specs.Moves.{other, inLayout, placeInPart, InColumn, Sizes, Moved, MovedWithin}
 use Rattle.rearrange.proofs.Places.{place-in-part-lt, place-in-part-apart}
 
-module _ {to : Layout} {n w : ℕ} {source : List Float} where
-  -- no rows, and no columns
-  pub moved-no-rows : {first left right : ℕ} {t : List Float} → Moved to n w first first left right source t t
-  moved-no-rows = record { moved = λ r s e h a b c d. absurd (omega arith); kept = λ r s e h same. same }
+-- the columns of a row end with its diagonal
+pub to-diagonal : (to : Layout) (n w : ℕ) {source : List Float} {r left right : ℕ} {t t′ : List Float}
+    → Moved to n w r (r + 1) left (r + 1) source t t′
+    → Moved to n w r (r + 1) left right source t t′
+to-diagonal to n w m = record { moved = λ r s e a b c d. m .moved r s e a b c (omega (arith, e .0 .lower)); kept = m .kept }
 
-  pub moved-no-columns : {first end left : ℕ} {t : List Float} → Moved to n w first end left left source t t
-  moved-no-columns = record { moved = λ r s e h a b c d. absurd (omega arith); kept = λ r s e h same. same }
-
-  pub join-rows : {first mid end left right : ℕ} {t t′ t″ : List Float}
-      → Moved to n w first mid left right source t t′
-      → Moved to n w mid end left right source t′ t″
-      → Moved to n w first end left right source t t″
-  join-rows {mid = mid} m m′ =
-      record {
-        moved = λ r s e h a b c d.
-            elim (decLt r mid) [
-              | yes p ↦ m′ .kept r s e h (m .moved r s e h a p c d)
-              | no p ↦ m′ .moved r s e h (omega arith) b c d
-            ];
-        kept = λ r s e h same. m′ .kept r s e h (m .kept r s e h same);
-      }
-
-  pub join-columns : {first end left mid right : ℕ} {t t′ t″ : List Float}
-      → Moved to n w first end left mid source t t′
-      → Moved to n w first end mid right source t′ t″
-      → Moved to n w first end left right source t t″
-  join-columns {mid = mid} m m′ =
-      record {
-        moved = λ r s e h a b c d.
-            elim (decLt s mid) [
-              | yes p ↦ m′ .kept r s e h (m .moved r s e h a b c p)
-              | no p ↦ m′ .moved r s e h a b (omega arith) d
-            ];
-        kept = λ r s e h same. m′ .kept r s e h (m .kept r s e h same);
-      }
-
-  -- the columns of a row end with its diagonal
-  pub to-diagonal : {r left right : ℕ} {t t′ : List Float}
-      → Moved to n w r (r + 1) left (r + 1) source t t′
-      → Moved to n w r (r + 1) left right source t t′
-  to-diagonal m = record { moved = λ r s e h a b c d. m .moved r s e h a b c (omega arith); kept = m .kept }
+-- the places in the target are apart
+apart : (to : Layout) (n w r s r′ s′ : ℕ)
+    → InColumn n w r s
+    → InColumn n w r′ s′
+    → placeInPart to n w r s ≡ placeInPart to n w r′ s′
+    → (r ≡ r′) × (s ≡ s′)
+apart to n w r s r′ s′ e e′ p = place-in-part-apart to n w r s r′ s′ (e .0) (e′ .0) (e .1) (e′ .1) p
 
 -- ---- one entry, where p and q are its places
 
-module _ (to : Layout) (n w r s : ℕ) (source t : List Float) (e : Entry n r s) (h : s < w) (full : w ≤ n) (fit : blockStart n w ≤ length t)
-  where
-    abbrev withEntry : List Float
-    withEntry = set t (placeInPart to n w r s) (getD source (placeInPart (other to) n w r s) nan)
-
-    same-entry : Same to n w source withEntry r s
-    same-entry =
-        getD-set-same t (placeInPart to n w r s) (getD source (placeInPart (other to) n w r s) nan) nan
-        (omega (arith, place-in-part-lt to n w r s full e h))
-
-    kept-entry : (r′ s′ : ℕ) → Entry n r′ s′ → s′ < w → Same to n w source t r′ s′ → Same to n w source withEntry r′ s′
-    kept-entry r′ s′ e′ h′ same =
-        elim (ℕ-discrete (placeInPart to n w r′ s′) (placeInPart to n w r s)) [
-          | yes p ↦
-              let entry : (r′ ≡ r) × (s′ ≡ s) = place-in-part-apart to n w r′ s′ r s e′ e h′ h p in
-              rw (entry .0, entry .1) same-entry
-          | no p ↦
-              getD-set-other t (placeInPart to n w r s) (placeInPart to n w r′ s′) (getD source (placeInPart (other to) n w r s) nan) nan p
-              ∙ same
-        ]
-
-    with-entry : Moved to n w r (r + 1) s (s + 1) source t withEntry
-    with-entry =
-        record {
-          moved = λ r′ s′ e′ h′ a b c d.
-              let row : r′ ≡ r = omega arith in
-              let column : s′ ≡ s = omega arith in
-              rw (row, column) same-entry;
-          kept = kept-entry;
-        }
-
-pub moved-entry : {to : Layout} {n w r s p q : ℕ} {source t t′ : List Float}
+pub moved-entry : (to : Layout) (n w : ℕ) {r s p q : ℕ} {source t t′ : List Float}
     → Entry n r s
     → s < w
     → w ≤ n
@@ -104,8 +45,10 @@ pub moved-entry : {to : Layout} {n w r s p q : ℕ} {source t t′ : List Float}
     → q ≡ placeInBlock w r s
     → t′ ≡ set t (inLayout to p q) (getD source (inLayout (other to) p q) nan)
     → Moved to n w r (r + 1) s (s + 1) source t t′
-moved-entry {to = to} {n = n} {w = w} {r = r} {s = s} {source = source} {t = t} e h full fit at-p at-q step =
-    rw (step, at-p, at-q) (with-entry to n w r s source t e h full fit)
+moved-entry to n w {r = r} {s = s} {source = source} {t = t} e h full fit at-p at-q step =
+    rw (step, at-p, at-q)
+    (Transfers.moved-entry (placeInPart (other to) n w) (placeInPart to n w) (InColumn n w) (apart to n w) source t r s (e, h)
+    (omega (arith, place-in-part-lt to n w r s full e h)))
 
 -- ---- down column s below the diagonal block: the rows from first to r are moved, and p and q are the places of entry (r, s)
 
@@ -144,7 +87,7 @@ module _ {to : Layout} {n w s first r p q : ℕ} {source t t′ : List Float}
           blocked = omega (arith, place-in-block-next-row-under w r s (omega arith));
           moved =
               join-rows (done .moved)
-              (moved-entry (omega arith) (under .0) (sizes .width) (omega arith) (done .packed) (done .blocked) refl);
+              (moved-entry to n w (omega arith) (under .0) (sizes .width) (omega arith) (done .packed) (done .blocked) refl);
         }
 
 -- ---- columns of a row below the diagonal block, stored together in blocked order from q on
@@ -157,37 +100,13 @@ module _ (n w r s count q : ℕ) (source t t′ values : List Float)
     (read : (k : ℕ) → k < count → getD values k nan ≡ getD source (packedPlace n r (s + k)) nan)
     (stored : Replaced nan q count t values t′)
   where
-    place-at : (k : ℕ) → q + k ≡ placeInBlock w r (s + k)
-    place-at k = omega (arith, place-in-block-row w r s, place-in-block-row w r (s + k))
-
-    same-column : (k : ℕ) → k < count → Same Blocked n w source t′ r (s + k)
-    same-column k h = rw (place-at k) at (stored .inside k h) ∙ read k h
-
-    kept-column : (r′ s′ : ℕ) → Entry n r′ s′ → s′ < w → Same Blocked n w source t r′ s′ → Same Blocked n w source t′ r′ s′
-    kept-column r′ s′ e h same =
-        let p : ℕ = placeInBlock w r′ s′ in
-        elim (decLt p q) [
-          | yes before ↦ stored .before p before ∙ same
-          | no low ↦
-              elim (decLt p (q + count)) [
-                | yes high ↦
-                    let k : ℕ = p - q in
-                    let entry : (r′ ≡ r) × (s′ ≡ s + k) =
-                    place-in-part-apart Blocked n w r′ s′ r (s + k) e (omega arith) h (omega arith) (omega (arith, place-at k)) in
-                    rw (entry .0, entry .1) (same-column k (omega arith))
-                | no after ↦ stored .after p (omega arith) ∙ same
-              ]
-        ]
-
     pub moved-columns : Moved Blocked n w r (r + 1) s (s + count) source t t′
     moved-columns =
-        record {
-          moved = λ r′ s′ e h a b c d.
-              let row : r′ ≡ r = omega arith in
-              let column : s + (s′ - s) ≡ s′ = omega arith in
-              rw row (rw column at (same-column (s′ - s) (omega arith)));
-          kept = kept-column;
-        }
+        Transfers.moved-columns (placeInPart Packed n w) (placeInPart Blocked n w) (InColumn n w) (apart Blocked n w) source t q count
+        (λ k. getD values k nan) t′ stored r s
+        (λ k h. let e : Entry n r (s + k) = omega arith in (e, omega arith))
+        (λ k h. omega (arith, place-in-block-row w r s, place-in-block-row w r (s + k)))
+        read
 
 -- ---- back from the work memory
 
@@ -209,6 +128,6 @@ module _ (to : Layout) (n w : ℕ) (memory work : List Float) (l : ℕ) (values 
               let below : p < l = omega (arith, place-in-part-lt to n w r s full e h) in
               rw zero-add at (back .inside p below)
               ∙ getD-take l work p nan below
-              ∙ m .moved r s e h (omega arith) (e .inside) (omega arith) h;
+              ∙ m .moved r s (e, h) (omega arith) (e .inside) (omega arith) h;
           kept = λ p h. back .after p (omega arith);
         }

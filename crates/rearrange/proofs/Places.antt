@@ -7,7 +7,7 @@ use native.Mathlib.Omega.{arith}
 use Rattle.shape.specs.Places.{packedPlace, blockOf, blockStart, width, placeInBlock, blockedPlace}
 use Rattle.shape.specs.Layouts.{Entry}
 use Rattle.shape.proofs.Parts.{starts-apart}
-use Rattle.shape.proofs.Columns.{block-start-next, block-start-split, packed-place-diagonal, packed-place-at, packed-place-lt}
+use Rattle.shape.proofs.Columns.{block-start-split, packed-place-at, packed-place-lt}
 use Rattle.shape.proofs.Rows.{rowLength, place-in-block-row, place-in-block-lt}
 use Rattle.shape.proofs.Blocks.{block-of-le, column-in-width, width-le, width-le-block, blocked-place-block, blocked-place-at}
 use Rattle.shape.proofs.Bijections.{packed-bijection}
@@ -22,20 +22,6 @@ use Rattle.rearrange.specs.Moves.{inLayout, placeInPart}
 pub place-in-part-lt : (layout : Layout) (n w r s : ℕ) → w ≤ n → Entry n r s → s < w → placeInPart layout n w r s < blockStart n w
 place-in-part-lt Packed n w r s full e h = packed-place-lt n w r s e h full
 place-in-part-lt Blocked n w r s full e h = place-in-block-lt n w r s full (e .inside) (omega arith)
-
-pub packed-place-rows : (n first r s : ℕ) → first ≤ r → packedPlace n r s ≡ packedPlace n first s + (r - first)
-unfolding packedPlace
-packed-place-rows n first r s h = omega arith
-
-pub packed-place-next-column : (n r s : ℕ) → s < n → packedPlace n r (s + 1) ≡ packedPlace n r s + (n - s - 1)
-unfolding packedPlace
-packed-place-next-column n r s h =
-    omega (
-      arith,
-      packed-place-diagonal n s (omega arith),
-      packed-place-diagonal n (s + 1) (omega arith),
-      block-start-next n s h,
-    )
 
 -- where p and q are the places of entry (r, s)
 pub in-layout-lt : (layout : Layout) {n w r s p q l : ℕ}

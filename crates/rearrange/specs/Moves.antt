@@ -11,6 +11,7 @@ use Rattle.shape.specs.Places.{packedPlace, blockStart, placeInBlock}
 use Rattle.shape.specs.Layouts.{Entry}
 use Rattle.calls.specs.declared.Layout.{Layout}
 use Rattle.calls.specs.declared.Layout.the-variants.{Packed, Blocked}
+use Rattle.kernels.specs.Transfers.{Same, Transferred}
 
 abbrev pub other : Layout → Layout
 other Packed = Blocked
@@ -25,9 +26,9 @@ inLayout Blocked p q = q
 abbrev pub placeInPart : Layout → ℕ → ℕ → ℕ → ℕ → ℕ
 placeInPart layout n w r s = inLayout layout (packedPlace n r s) (placeInBlock w r s)
 
--- entry (r, s) of the target is that of the source
-abbrev pub Same : Layout → ℕ → ℕ → List Float → List Float → ℕ → ℕ → Type 0
-Same to n w source target r s = getD target (placeInPart to n w r s) nan ≡ getD source (placeInPart (other to) n w r s) nan
+-- the entries that both memories hold
+abbrev pub InColumn : ℕ → ℕ → ℕ → ℕ → Type 0
+InColumn n w r s = Entry n r s × (s < w)
 
 -- both memories hold the block column
 pub record Sizes (n w : ℕ) (source target : List Float) : Type 0 where
@@ -36,13 +37,12 @@ pub record Sizes (n w : ℕ) (source target : List Float) : Type 0 where
   pub sourceHolds : blockStart n w ≤ length source
   pub targetHolds : blockStart n w ≤ length target
 
--- The entries of rows first .. end − 1 and columns left .. right − 1 were moved, and no entry that had been moved before was lost.
-pub record Moved (to : Layout) (n w first end left right : ℕ) (source target target′ : List Float) : Type 0 where
-  pub moved :
-      (r s : ℕ) → Entry n r s → s < w → first ≤ r → r < end → left ≤ s → s < right → Same to n w source target′ r s
-  pub kept : (r s : ℕ) → Entry n r s → s < w → Same to n w source target r s → Same to n w source target′ r s
+-- the entries of rows first .. end − 1 and columns left .. right − 1 were moved
+abbrev pub Moved : Layout → ℕ → ℕ → ℕ → ℕ → ℕ → ℕ → List Float → List Float → List Float → Type 0
+Moved to n w first end left right source target target′ =
+    Transferred (placeInPart (other to) n w) (placeInPart to n w) (InColumn n w) first end left right source target target′
 
 -- All entries of the block column were moved inside its own memory, which stays as it was behind them.
 pub record MovedWithin (to : Layout) (n w : ℕ) (memory memory′ : List Float) : Type 0 where
-  pub moved : (r s : ℕ) → Entry n r s → s < w → Same to n w memory memory′ r s
+  pub moved : (r s : ℕ) → Entry n r s → s < w → Same (placeInPart (other to) n w) (placeInPart to n w) memory memory′ r s
   pub kept : (p : ℕ) → blockStart n w ≤ p → getD memory′ p nan ≡ getD memory p nan

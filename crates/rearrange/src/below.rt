@@ -1,14 +1,11 @@
 // The rows of a block column below its diagonal block, each of w columns: rows first .. end − 1. A column's values stand together in packed
 // order and w places apart in blocked order. To packed order one column is moved after another. To blocked order eight are moved at once, so
 // that eight values of a row are written together.
-ghost use mathlib.Core.Path.{_≡_};
-ghost use Prim.Native.Nat.{ℕ, _+_, _≤_, _<_};
-ghost use lib.ListN.{getD};
-ghost use Rattle.shape.specs.Bounds.{maxOrder};
-ghost use Rattle.shape.specs.Places.{packedPlace};
+ghost use Prim.Native.Nat.{_+_, _≤_, _<_};
 ghost use Rattle.calls.specs.declared.Layout.the-variants.{Packed, Blocked};
 ghost use Rattle.rearrange.specs.Moves.{Sizes, Moved};
 use kernels::gather8;
+use kernels::packed_places8;
 use kernels::store8;
 use shape::Shape;
 
@@ -70,20 +67,6 @@ fn column_to_blocked(
     }
 }
 
-// The packed places of columns s .. s + 7 of row r.
-fn packed_places8(part: Shape, r: usize, s: usize) -> [usize; 8]
-    requires { ⌜ (part .order ≤ maxOrder) × (r < part .order) × (s + 8 ≤ r + 1) ⌝ }
-    ensures { λ at. ⌜ ((k : ℕ) → k < 8 → getD at k 0 ≡ packedPlace (part .order) r (s + k)) ⌝ }
-{
-    let mut places = [0; 8];
-    let mut k = 0;
-    while k < 8 {
-        places[k] = part.packed_place(r, s + k);
-        k += 1;
-    }
-    places
-}
-
 // Columns s .. s + 7.
 fn columns8_to_blocked(
     part: Shape,
@@ -97,7 +80,7 @@ fn columns8_to_blocked(
     requires { ⌜ (s + 8 ≤ part .block) × (part .block ≤ first) × (first < end) × (end ≤ part .order) ⌝ }
     ensures { λ _. ⌜ Moved Blocked (part .order) (part .block) first end s (s + 8) (now (source .entry)) (now (target .entry)) (now (target .exit)) ⌝ }
 {
-    let places = packed_places8(part, first, s);
+    let places = packed_places8(part, first, s, 8);
     let mut q = Shape::place_in_block(part.block, first, s);
     let mut r = first;
     while r < end {

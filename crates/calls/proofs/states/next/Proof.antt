@@ -40,21 +40,44 @@ enum-known-call-4 c = search needs
 row-requires-4 : tie.Need-row-requires-4
 row-requires-4 c κs = search needs
 
+enum-told : tie.Need-enum-told
+enum-told c = search needs
+
+state-number-requires-2 : tie.Need-state-number-requires-2
+state-number-requires-2 c κs = search needs
+
 returns-2 : tie.Need-returns-2
 unfolding lookUp
 returns-2 c =
+    let args = c .before .before .before .before .args in
+    let raw = c .before .state-number2 in
+    rw (c .before .before .enum-told .given .1, ← raw .ensures, eq-eqb (args .state) (raw .result) (c .if2 .taken)) refl
+
+row-requires-5 : tie.Need-row-requires-5
+row-requires-5 c κs = search needs
+
+returns-3 : tie.Need-returns-3
+unfolding lookUp
+returns-3 c =
     let args = c .before .before .before .before .before .before .args in
     let raw = c .before .before .state-number in
     rw (c .before .before .before .before .call .given .1, ← raw .ensures, ne-eqb (args .state) (raw .result) (c .before .if1 .left)) (c .row .ensures)
 
-returns-3 : tie.Need-returns-3
-returns-3 c = rw (c .before .before .call2 .given .1) (c .row2 .ensures)
-
 returns-4 : tie.Need-returns-4
-returns-4 c = rw (c .before .before .call3 .given .1) (c .row3 .ensures)
+returns-4 c = rw (c .before .before .call2 .given .1) (c .row2 .ensures)
 
 returns-5 : tie.Need-returns-5
-returns-5 c = rw (c .before .before .call4 .given .1) (c .row4 .ensures)
+returns-5 c = rw (c .before .before .call3 .given .1) (c .row3 .ensures)
+
+returns-6 : tie.Need-returns-6
+returns-6 c = rw (c .before .before .call4 .given .1) (c .row4 .ensures)
+
+returns-7 : tie.Need-returns-7
+unfolding lookUp
+returns-7 c =
+    let args = c .before .before .before .before .before .args in
+    let raw = c .before .before .state-number2 in
+    rw (c .before .before .before .enum-told .given .1, ← raw .ensures, ne-eqb (args .state) (raw .result) (c .before .if2 .left)) (c .row5 .ensures)
 
 pub next-spec : {M : Type 1} → statement M
 next-spec =
@@ -70,7 +93,12 @@ next-spec =
     row-requires-3
     enum-known-call-4
     row-requires-4
+    enum-told
+    state-number-requires-2
     returns-2
+    row-requires-5
     returns-3
     returns-4
-    returns-5)
+    returns-5
+    returns-6
+    returns-7)

@@ -6,11 +6,13 @@ use native.Mathlib.Omega.{arith}
 use lib.ListN.{length, getD}
 use lib.Ieee.{nan}
 use Rattle.shape.specs.Places.{packedPlace, blockStart, placeInBlock}
+use Rattle.shape.proofs.Columns.{packed-place-rows}
 use Rattle.shape.proofs.Rows.{place-in-block-row, place-in-block-next-row-under}
 use Rattle.calls.specs.declared.Layout.the-variants.{Packed, Blocked}
+use Rattle.kernels.proofs.Transfers.{moved-no-rows, join-rows}
 use Rattle.rearrange.specs.Moves.{Moved}
-use Rattle.rearrange.proofs.Places.{place-in-part-lt, packed-place-rows}
-use Rattle.rearrange.proofs.Moves.{moved-no-rows, join-rows, moved-columns}
+use Rattle.rearrange.proofs.Places.{place-in-part-lt}
+use Rattle.rearrange.proofs.Moves.{moved-columns}
 use Rattle.rearrange.proofs.below.columns8_to_blocked.Statement.{statement}
 use Rattle.rearrange.proofs.below.columns8_to_blocked.Tie as tie
 

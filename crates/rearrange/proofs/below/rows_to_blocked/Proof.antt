@@ -5,8 +5,8 @@ use Prim.Native.Nat.{_-_, _≤_}
 use native.Mathlib.Omega.{arith}
 use lib.ListN.{length}
 use Rattle.calls.specs.declared.Layout.the-variants.{Blocked}
+use Rattle.kernels.proofs.Transfers.{moved-no-columns, join-columns}
 use Rattle.rearrange.specs.Moves.{Moved}
-use Rattle.rearrange.proofs.Moves.{moved-no-columns, join-columns}
 use Rattle.rearrange.proofs.below.rows_to_blocked.Statement.{statement}
 use Rattle.rearrange.proofs.below.rows_to_blocked.Tie as tie
 

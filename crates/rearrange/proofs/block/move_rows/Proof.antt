@@ -5,8 +5,8 @@ use Prim.Native.Nat.{_-_, _≤_}
 use native.Mathlib.Omega.{arith}
 use borrow.Author.Needs.{needs}
 use lib.ListN.{length}
+use Rattle.kernels.proofs.Transfers.{moved-no-rows, join-rows}
 use Rattle.rearrange.specs.Moves.{Moved}
-use Rattle.rearrange.proofs.Moves.{moved-no-rows, join-rows}
 use Rattle.rearrange.proofs.block.move_rows.Statement.{statement}
 use Rattle.rearrange.proofs.block.move_rows.Tie as tie
 

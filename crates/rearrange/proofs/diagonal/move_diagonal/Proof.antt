@@ -4,8 +4,8 @@ use mathlib.Core.Path.{_≡_, refl}
 use Prim.Native.Nat.{_-_, _≤_}
 use native.Mathlib.Omega.{arith}
 use lib.ListN.{length}
+use Rattle.kernels.proofs.Transfers.{moved-no-rows, join-rows}
 use Rattle.rearrange.specs.Moves.{Moved}
-use Rattle.rearrange.proofs.Moves.{moved-no-rows, join-rows}
 use Rattle.rearrange.proofs.diagonal.move_diagonal.Statement.{statement}
 use Rattle.rearrange.proofs.diagonal.move_diagonal.Tie as tie
 

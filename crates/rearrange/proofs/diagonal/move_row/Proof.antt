@@ -6,11 +6,13 @@ use native.Mathlib.Omega.{arith}
 use lib.ListN.{length}
 use Rattle.shape.specs.Places.{packedPlace, placeInBlock}
 use Rattle.shape.specs.Layouts.{Entry}
+use Rattle.shape.proofs.Columns.{packed-place-next-column}
 use Rattle.shape.proofs.Rows.{place-in-block-next-column}
 use Rattle.calls.specs.declared.Layout.the-variants.{Packed, Blocked}
+use Rattle.kernels.proofs.Transfers.{moved-no-columns, join-columns}
 use Rattle.rearrange.specs.Moves.{other, Moved}
-use Rattle.rearrange.proofs.Places.{place-in-part-lt, packed-place-next-column, in-layout-lt}
-use Rattle.rearrange.proofs.Moves.{moved-no-columns, join-columns, to-diagonal, moved-entry}
+use Rattle.rearrange.proofs.Places.{place-in-part-lt, in-layout-lt}
+use Rattle.rearrange.proofs.Moves.{to-diagonal, moved-entry}
 use Rattle.rearrange.proofs.diagonal.move_row.Statement.{statement}
 use Rattle.rearrange.proofs.diagonal.move_row.Tie as tie
 
@@ -76,7 +78,7 @@ loop-again c =
       omega arith,
       omega (arith, packed-place-next-column (args .part .order) (args .r) (at .s) (omega arith)),
       omega (arith, place-in-block-next-column (args .part .block) (args .r) (at .s)),
-      join-columns (at .inv .4) (moved-entry (omega arith) (omega arith) (omega arith) (omega arith) (at .inv .2) (at .inv .3) (value .ensures)),
+      join-columns (at .inv .4) (moved-entry (args .to) (args .part .order) (args .part .block) (omega arith) (omega arith) (omega arith) (omega arith) (at .inv .2) (at .inv .3) (value .ensures)),
     )
 
 same-length : tie.Need-same-length Inv-loop μ-loop
@@ -86,7 +88,7 @@ returns : tie.Need-returns Inv-loop μ-loop
 returns c =
     let args = c .before .before .before .before .before .before .args in
     let all : c .before .loop .s ≡ args .r + 1 = omega arith in
-    to-diagonal (rw all at (c .before .loop .inv .4))
+    to-diagonal (args .to) (args .part .order) (args .part .block) (rw all at (c .before .loop .inv .4))
 
 pub move-row-spec : {M : Type 1} → statement M
 move-row-spec =

@@ -1,19 +1,19 @@
--- `rearrange::below::packed_places8` meets its contract. The loop's invariant: the first k places are stored. The measure is the number of places
+-- `kernels::packed_places8` meets its contract. The loop's invariant: the first k places are stored. The measure is the number of places
 -- left. Assumes nothing.
 use mathlib.Core.Path.{_≡_, refl}
 use Prim.Native.Nat.{_+_, _-_, _≤_}
 use native.Mathlib.Omega.{arith}
 use lib.ListN.{length}
 use Rattle.shape.specs.Places.{packedPlace}
 use Rattle.kernels.proofs.Loops.{Stored, stored-none, stored-next}
-use Rattle.rearrange.proofs.below.packed_places8.Statement.{statement}
-use Rattle.rearrange.proofs.below.packed_places8.Tie as tie
+use Rattle.kernels.proofs.packed_places8.Statement.{statement}
+use Rattle.kernels.proofs.packed_places8.Tie as tie
 
 abbrev Inv-loop : tie.InvT-loop
-Inv-loop part r s places₀ k₀ places k = (k ≤ 8) × (length places₀ ≡ 8) × Stored 0 (λ q. packedPlace (part .order) r (s + q)) places₀ k places
+Inv-loop shape r s count places₀ k₀ places k = (k ≤ count) × (length places₀ ≡ 8) × Stored 0 (λ q. packedPlace (shape .order) r (s + q)) places₀ k places
 
 abbrev μ-loop : tie.MeasureT-loop
-μ-loop part r s places₀ k₀ places k = 8 - k
+μ-loop shape r s count places₀ k₀ places k = count - k
 
 loop-holds : tie.Need-loop-holds Inv-loop μ-loop
 loop-holds c = (omega arith, refl, stored-none 0 _ _)

@@ -1,18 +1,18 @@
--- `kernels::gather8` meets its contract. The invariant of its loop: the first s values are taken. Assumes nothing.
+-- `kernels::gather_part8` meets its contract. The invariant of its loop: the first s values are taken. Assumes nothing.
 use Prim.Native.Nat.{_+_, _-_, _≤_}
 use native.Mathlib.Omega.{arith}
 use mathlib.Core.Path.{_≡_, refl}
 use lib.ListN.{length, getD}
 use lib.Ieee.{nan}
 use Rattle.kernels.proofs.Loops.{Stored, stored-none, stored-next}
-use Rattle.kernels.proofs.gather8.Statement.{statement}
-use Rattle.kernels.proofs.gather8.Tie as tie
+use Rattle.kernels.proofs.gather_part8.Statement.{statement}
+use Rattle.kernels.proofs.gather_part8.Tie as tie
 
 abbrev Inv-loop : tie.InvT-loop
-Inv-loop x k at values₀ s₀ values s = (s ≤ 8) × (length values₀ ≡ 8) × Stored nan (λ q. getD x (getD at q 0 + k) nan) values₀ s values
+Inv-loop x k count at values₀ s₀ values s = (s ≤ count) × (length values₀ ≡ 8) × Stored nan (λ q. getD x (getD at q 0 + k) nan) values₀ s values
 
 abbrev μ-loop : tie.MeasureT-loop
-μ-loop x k at values₀ s₀ values s = 8 - s
+μ-loop x k count at values₀ s₀ values s = count - s
 
 loop-holds : tie.Need-loop-holds Inv-loop μ-loop
 loop-holds c = (omega arith, refl, stored-none nan _ _)
@@ -24,13 +24,13 @@ array-read-values : tie.Need-array-read-values Inv-loop μ-loop
 array-read-values c = omega arith
 
 add-values : tie.Need-add-values Inv-loop μ-loop
-add-values c = omega (arith, c .before .before .pre (c .before .loop .s) (c .loop-test .taken))
+add-values c = omega (arith, c .before .before .pre .1 (c .before .loop .s) (c .loop-test .taken))
 
 mul-values-2 : tie.Need-mul-values-2 Inv-loop μ-loop
-mul-values-2 c = omega (arith, c .before .before .pre (c .before .loop .s) (c .loop-test .taken))
+mul-values-2 c = omega (arith, c .before .before .pre .1 (c .before .loop .s) (c .loop-test .taken))
 
 shared-slice-read-values : tie.Need-shared-slice-read-values Inv-loop μ-loop
-shared-slice-read-values c = omega (arith, c .before .before .before .pre (c .before .before .loop .s) (c .before .loop-test .taken))
+shared-slice-read-values c = omega (arith, c .before .before .before .pre .1 (c .before .before .loop .s) (c .before .loop-test .taken))
 
 mul-values-3 : tie.Need-mul-values-3 Inv-loop μ-loop
 mul-values-3 c = omega arith
@@ -52,8 +52,8 @@ loop-again c =
 returns : tie.Need-returns Inv-loop μ-loop
 returns c = λ s h. c .before .loop .inv .2 .done s (omega arith)
 
-pub gather8-spec : {M : Type 1} → statement M
-gather8-spec =
+pub gather-part8-spec : {M : Type 1} → statement M
+gather-part8-spec =
     tie.close
     (tie.spec
     Inv-loop

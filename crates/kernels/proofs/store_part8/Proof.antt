@@ -1,4 +1,4 @@
--- `kernels::store8` meets its contract. The invariant of its loop: the first s values are stored. Assumes nothing.
+-- `kernels::store_part8` meets its contract. The invariant of its loop: the first s values are stored. Assumes nothing.
 use Prim.Native.Nat.{_-_, _≤_}
 use native.Mathlib.Omega.{arith}
 use mathlib.Core.Path.{_≡_, refl}
@@ -6,14 +6,14 @@ use denote.Ref.{now}
 use lib.Ieee.{nan}
 use Rattle.kernels.specs.Kernels.{Replaced}
 use Rattle.kernels.proofs.Parts.{filled-none, filled-next}
-use Rattle.kernels.proofs.store8.Statement.{statement}
-use Rattle.kernels.proofs.store8.Tie as tie
+use Rattle.kernels.proofs.store_part8.Statement.{statement}
+use Rattle.kernels.proofs.store_part8.Tie as tie
 
 abbrev Inv-loop : tie.InvT-loop
-Inv-loop v₀ at values s₀ v s = (s ≤ 8) × Replaced nan at s v₀ values v
+Inv-loop v₀ at count values s₀ v s = (s ≤ count) × Replaced nan at s v₀ values v
 
 abbrev μ-loop : tie.MeasureT-loop
-μ-loop v₀ at values s₀ v s = 8 - s
+μ-loop v₀ at count values s₀ v s = count - s
 
 loop-holds : tie.Need-loop-holds Inv-loop μ-loop
 loop-holds c = (omega arith, filled-none nan _ _ _)
@@ -50,11 +50,11 @@ same-length c = c .before .loop .inv .1 .size
 
 returns : tie.Need-returns Inv-loop μ-loop
 returns c =
-    let end : c .before .loop .s ≡ 8 = omega arith in
+    let end : c .before .loop .s ≡ c .before .before .args .count = omega arith in
     rw end at (c .before .loop .inv .1)
 
-pub store8-spec : {M : Type 1} → statement M
-store8-spec =
+pub store-part8-spec : {M : Type 1} → statement M
+store-part8-spec =
     tie.close
     (tie.spec
     Inv-loop
