@@ -1,9 +1,12 @@
-// The engine: the eight calls for other languages, and both pipelines with the promise that they agree.
+// The engine: the ten calls for other languages, and both pipelines with the promise that they agree.
 ghost use Rattle.calls.specs.declared.Layout.the-variants.{Packed, Blocked};
+ghost use Rattle.calls.specs.declared.Conversion.the-variants.{PackedToRfp, RfpToPacked};
 ghost use Rattle.calls.specs.Calls as Calls;
 ghost use Rattle.calls.specs.Calls.{DoneAs, SolvedAs, packedToBlocked, blockedToPacked, factorize};
 ghost use Rattle.calls.specs.Variances as Variances;
 ghost use Rattle.calls.specs.Variances.{EvaluatedAs};
+ghost use Rattle.calls.specs.Conversions as Conversions;
+ghost use Rattle.calls.specs.Conversions.{ConvertedAs};
 
 mod pipelines;
 
@@ -107,4 +110,28 @@ pub extern "C" fn metsovary_variance_blocked(
     ensures { λ r. ⌜ EvaluatedAs (Variances.variance Blocked shape k (now (matrix .entry)) (now (work .entry))) r (now (work .exit)) ⌝ }
 {
     variance::variance_blocked(shape, k, matrix, work)
+}
+
+#[no_mangle]
+pub extern "C" fn metsovary_packed_to_rfp(
+    shape: Shape,
+    form: usize,
+    source: &[f64],
+    target: &mut [f64],
+) -> CallResult
+    ensures { λ r. ⌜ ConvertedAs (Conversions.convert PackedToRfp form shape (now (source .entry)) (now (target .entry))) r (now (target .exit)) ⌝ }
+{
+    convert::packed_to_rfp(shape, form, source, target)
+}
+
+#[no_mangle]
+pub extern "C" fn metsovary_rfp_to_packed(
+    shape: Shape,
+    form: usize,
+    source: &[f64],
+    target: &mut [f64],
+) -> CallResult
+    ensures { λ r. ⌜ ConvertedAs (Conversions.convert RfpToPacked form shape (now (source .entry)) (now (target .entry))) r (now (target .exit)) ⌝ }
+{
+    convert::rfp_to_packed(shape, form, source, target)
 }
