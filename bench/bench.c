@@ -5,10 +5,9 @@
  *
  * measures the orders 500, 1,000 and 2,000 and each N, and prints a line for each subject: order, who, what with its block length and its number of right-hand
  * sides where it has them (solve_blocked_64_100), the least processor time of a call in seconds, and the core type. Variances are those of the first unknown
- * and of one in the middle (variance_blocked_middle_64). LIBOPENBLAS is the path of libopenblas.so.0. The calls that work by blocks are measured at block length
- * 64, and at orders 1,000 and 2,000 at those of BLOCKS (16,32, or nothing) too. */
+ * and of one in the middle (variance_blocked_middle_64); a converter and its peer have the number of the form (packed_to_rfp_1, dtpttf_1). LIBOPENBLAS is the path
+ * of libopenblas.so.0. The calls that work by blocks are measured at block length 64, and at orders 1,000 and 2,000 at those of BLOCKS (16,32, or nothing) too. */
 #define _GNU_SOURCE
-#include <dlfcn.h>
 #include <emmintrin.h>
 #include <math.h>
 #include <stdio.h>
@@ -17,6 +16,7 @@
 #include <time.h>
 
 #include "../include/metsovary.h"
+#include "peers.h"
 
 enum { MAX_BLOCK = 200, MANY = 100, MAX_ORDER = 4000 };
 static const double ROUND_SECONDS = 0.02; /* a short call is repeated in a round until it has used this much */
@@ -31,46 +31,36 @@ static void die(const char *what, const char *why) {
 
 /* ---- peers ---- */
 
-#define LIBRARIES "/usr/lib/x86_64-linux-gnu/"
-
-/* Fortran's interface: every argument by its address, the length of a string last. */
-typedef void packed_factor(const char *uplo, const int *n, double *ap, int *info, size_t);
-typedef void packed_solve(const char *uplo, const int *n, const int *nrhs, const double *ap, double *b, const int *ldb, int *info, size_t);
-typedef void full_factor(const char *uplo, const int *n, double *a, const int *lda, int *info, size_t);
-
 static packed_factor *reference_dpptrf, *openblas_dpptrf;
 static packed_solve *reference_dpptrs;
+static rfp_convert *reference_dtpttf, *reference_dtfttp;
 static full_factor *openblas_dpotrf;
 static const char *core;
 
-static void *library(const char *path) {
-    void *found = dlopen(path, RTLD_NOW | RTLD_LOCAL | RTLD_DEEPBIND);
-    if (!found) die(path, dlerror());
-    return found;
+static void *loaded(const char *what, void *library) {
+    if (!library) die(what, dlerror());
+    return library;
 }
 
-/* The function that this name has for the library's own calls. It must be in a file whose path begins as given. */
 static void *function(void *library, const char *name, const char *path) {
-    Dl_info info;
-    void *found = dlsym(library, name);
-    if (!found || !dladdr(found, &info)) die(name, "not found");
-    if (strncmp(info.dli_fname, path, strlen(path)) != 0) die(name, info.dli_fname);
+    void *found = find_function(library, name, path);
+    if (!found) die(name, "not found where it belongs");
     return found;
 }
 
-/* LAPACK needs libblas.so.3, which the system may have pointed at OpenBLAS. The reference BLAS, loaded first, has that name already, and LAPACK's calls are
- * bound before OpenBLAS is loaded. */
+/* LAPACK's calls are bound before OpenBLAS is loaded. */
 static void load_reference(void) {
     static const char *const called[] = {"dspr_", "dscal_", "ddot_", "dtpsv_"};
-    library(LIBRARIES "blas/libblas.so.3");
-    void *lapack = library(LIBRARIES "lapack/liblapack.so.3");
+    void *lapack = loaded("LAPACK", open_lapack());
     for (size_t k = 0; k < sizeof called / sizeof *called; k++) function(lapack, called[k], LIBRARIES "blas/");
     reference_dpptrf = (packed_factor *)function(lapack, "dpptrf_", LIBRARIES "lapack/");
     reference_dpptrs = (packed_solve *)function(lapack, "dpptrs_", LIBRARIES "lapack/");
+    reference_dtpttf = (rfp_convert *)function(lapack, "dtpttf_", LIBRARIES "lapack/");
+    reference_dtfttp = (rfp_convert *)function(lapack, "dtfttp_", LIBRARIES "lapack/");
 }
 
 static void load_openblas(const char *path) {
-    void *openblas = library(path);
+    void *openblas = loaded(path, open_library(path));
     const char *wanted = getenv("OPENBLAS_CORETYPE");
     core = ((char *(*)(void))function(openblas, "openblas_get_corename", path))();
     if (!wanted || strcmp(wanted, core) != 0) die("OPENBLAS_CORETYPE is not the core type that OpenBLAS took", core);
@@ -86,6 +76,7 @@ static int n, block, sides;                           /* the order; the subject'
 static size_t length;
 static double *original, *matrix, *full;              /* the packed matrix; what a call works on, as a triangle or as a square */
 static double *factor, *blocked_factor;               /* of the matrix, by the engine */
+static double *rfp[2];                                /* the matrix in rectangular full packed format, of either form, by the engine */
 static metsovary_shape matrix_shape, factor_shape, blocked_shape; /* what the engine is told that matrix and the two factors hold */
 static double *right_sides, *solutions, *x, *work;    /* MANY right-hand sides, their solutions by the engine; what a solver works on */
 static double first_variance, middle_variance;        /* of unknowns 0 and middle(), by the plain solver */
@@ -131,7 +122,7 @@ static void make_operands(int order) {
     n = order, block = MAX_BLOCK, sides = MANY, blocked_shape = (metsovary_shape){0};
     length = (size_t)n * (size_t)(n + 1) / 2;
     original = values(length), matrix = values(length), full = values((size_t)n * (size_t)n);
-    factor = values(length), blocked_factor = values(length);
+    factor = values(length), blocked_factor = values(length), rfp[0] = values(length), rfp[1] = values(length);
     right_sides = values(rhs_length()), solutions = values(rhs_length()), x = values(rhs_length()), work = values(block_work());
     state = (uint64_t)n;
     size_t p = 0;
@@ -142,11 +133,13 @@ static void make_operands(int order) {
     factor_shape = accept("factor_plain", metsovary_factor_plain(shape(METSOVARY_PACKED_RAW), factor, length, work, (size_t)n));
     copy(solutions, right_sides, rhs_length());
     accept("solve_plain", metsovary_solve_plain(factor_shape, (uint64_t)sides, factor, length, solutions, rhs_length(), work, (size_t)n));
+    for (uint64_t form = 0; form < 2; form++)
+        accept("packed_to_rfp", metsovary_packed_to_rfp(shape(METSOVARY_PACKED_RAW), form, original, length, rfp[form], length));
     first_variance = solved_variance(0), middle_variance = solved_variance(middle());
 }
 
 static void free_operands(void) {
-    double *all[] = {original, matrix, full, factor, blocked_factor, right_sides, solutions, x, work};
+    double *all[] = {original, matrix, full, factor, blocked_factor, rfp[0], rfp[1], right_sides, solutions, x, work};
     for (size_t k = 0; k < sizeof all / sizeof *all; k++) free(all[k]);
 }
 
@@ -156,6 +149,9 @@ static void set_packed(void) {
     copy(matrix, original, length);
     matrix_shape = shape(METSOVARY_PACKED_RAW);
 }
+
+static void set_rfp_0(void) { copy(matrix, rfp[0], length); }
+static void set_rfp_1(void) { copy(matrix, rfp[1], length); }
 
 static metsovary_shape rearrange(metsovary_shape packed_shape, double *packed) {
     return accept("packed_to_blocked", metsovary_packed_to_blocked(packed_shape, packed, length, work, block_work()));
@@ -274,6 +270,40 @@ static void blocked_to_packed(void) {
     matrix_shape = accept("blocked_to_packed", metsovary_blocked_to_packed(matrix_shape, matrix, length, work, block_work()));
 }
 
+/* A converter's target is the matrix; it has the source's bits before the call. */
+static void agree_on_target(const char *call, const double *wanted) { agree(call, matrix[length / 2], wanted[length / 2]); }
+
+static void packed_to_rfp(uint64_t form) {
+    accept("packed_to_rfp", metsovary_packed_to_rfp(shape(METSOVARY_PACKED_RAW), form, original, length, matrix, length));
+    agree_on_target("packed_to_rfp", rfp[form]);
+}
+
+static void rfp_to_packed(uint64_t form) {
+    accept("rfp_to_packed", metsovary_rfp_to_packed(shape(METSOVARY_PACKED_RAW), form, rfp[form], length, matrix, length));
+    agree_on_target("rfp_to_packed", original);
+}
+
+static void dtpttf(uint64_t form) {
+    int info;
+    reference_dtpttf(form ? "T" : "N", "L", &n, original, matrix, &info, 1, 1);
+    agree_on_target("dtpttf", rfp[form]);
+}
+
+static void dtfttp(uint64_t form) {
+    int info;
+    reference_dtfttp(form ? "T" : "N", "L", &n, rfp[form], matrix, &info, 1, 1);
+    agree_on_target("dtfttp", original);
+}
+
+static void packed_to_rfp_0(void) { packed_to_rfp(0); }
+static void packed_to_rfp_1(void) { packed_to_rfp(1); }
+static void rfp_to_packed_0(void) { rfp_to_packed(0); }
+static void rfp_to_packed_1(void) { rfp_to_packed(1); }
+static void dtpttf_0(void) { dtpttf(0); }
+static void dtpttf_1(void) { dtpttf(1); }
+static void dtfttp_0(void) { dtfttp(0); }
+static void dtfttp_1(void) { dtfttp(1); }
+
 static void copy_matrix(void) { copy(matrix, original, length); }
 
 /* ---- subjects ---- */
@@ -296,6 +326,14 @@ static const subject always[] = {
     {"metsovary", "packed_to_blocked", 64, 0, set_packed, packed_to_blocked},
     {"metsovary", "blocked_to_packed", 64, 0, set_blocked, blocked_to_packed},
     {"libc", "memcpy", 0, 0, set_packed, copy_matrix},
+    {"metsovary", "packed_to_rfp_0", 0, 0, set_packed, packed_to_rfp_0},
+    {"reference", "dtpttf_0", 0, 0, set_packed, dtpttf_0},
+    {"metsovary", "packed_to_rfp_1", 0, 0, set_packed, packed_to_rfp_1},
+    {"reference", "dtpttf_1", 0, 0, set_packed, dtpttf_1},
+    {"metsovary", "rfp_to_packed_0", 0, 0, set_rfp_0, rfp_to_packed_0},
+    {"reference", "dtfttp_0", 0, 0, set_rfp_0, dtfttp_0},
+    {"metsovary", "rfp_to_packed_1", 0, 0, set_rfp_1, rfp_to_packed_1},
+    {"reference", "dtfttp_1", 0, 0, set_rfp_1, dtfttp_1},
     {"metsovary", "solve_plain", 0, 1, set_right_sides, solve_plain},
     {"metsovary", "solve_blocked", 64, 1, set_blocked_factor, solve_blocked},
     {"reference", "dpptrs", 0, 1, set_right_sides, dpptrs_of_reference},

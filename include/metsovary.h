@@ -1,5 +1,5 @@
 /* Metsovary: Cholesky factor and solution of symmetric positive definite systems of order up to 4,000 in binary64, and the variance of one unknown, packed or
- * by blocks, bit for bit the same on both ways. Link libengine.a (rt staticlib engine).
+ * by blocks, bit for bit the same on both ways; and LAPACK's rectangular full packed format (RFP), to and from. Link libengine.a (rt staticlib engine).
  *
  * A call examines its orders, lengths, states and values itself, refuses by the first rule that holds, in the order of the list below, and touches only the
  * memory that it is lent. The caller owes: pointers to as many values as the length says (any pointer where that is 0), memories that do not overlap, the
@@ -9,6 +9,8 @@
  *   packed    i + j(2n - j - 1)/2
  *   blocked   c = b floor(j / b), w = min(b, n - c), r = i - c, s = j - c; from c(2n - c + 1)/2 on:
  *             r(r + 1)/2 + s where r < w, else w(w + 1)/2 + (r - w)w + s
+ *   RFP       o = n mod 2, an array of n + 1 - o rows and m = (n + o)/2 columns; r = i + 1 - o, c = j where j < m, else r = j - m, c = i + o - m;
+ *             form 0, its columns one after another: r + c(n + 1 - o); form 1, its transpose: c + rm
  *
  * A shape says what its matrix memory holds. Fill in the order and the block length of a shape of zeros for a packed matrix, and hand each call the shape that
  * the one before it returned for that memory:
@@ -23,14 +25,18 @@
  *   blocked solver        blocked factor  the same
  *   plain variance        packed factor   the same
  *   blocked variance      blocked factor  the same
+ *   packed to RFP,        packed raw      the same
+ *   RFP to packed         packed factor   the same
  * After 10, 11 and 16 the shape returned says spent, which no call takes; after every other refusal it is the shape that was handed in.
  *
  * code  meaning                                                               place
  *    0  success                                                               0
  *    1  the order is over 4,000                                               0
  *    2  a call that works by blocks: the block length is 0 or over 200        0
+ *   17  a converter: the form is neither 0 nor 1                              0
  *   15  the state does not suit the call                                      0
  *    3  the matrix is not exactly n(n + 1)/2 values                           0
+ *       (a converter: source or target)
  *    4  the work memory is too short                                          0
  *   14  a variance: the unknown is not below the order                        0
  *    5  a solver: over 1,000 right-hand sides                                 0
@@ -49,8 +55,8 @@
  *
  * Of 10, 16 and 11 the lowest refused column decides, and the list's order only within it. The value is +0 except under 10, where it may be minus infinity,
  * under 16, and on success of a variance call. exact: a factor succeeds, and the square of each of its roots is the pivot exactly; so it is true of an accepted
- * order 0. It is false after every refusal, and from rearrangers, solvers and variance calls, which take no root. After 1 to 9, 14 and 15 all memory is as it
- * was. On success and after 10 to 12 and 16 the needed length of work memory is +0 and the rest as it was. */
+ * order 0. It is false after every refusal, and from rearrangers, solvers, variance calls and converters, which take no root. After 1 to 9, 14, 15 and 17 all
+ * memory is as it was. On success and after 10 to 12 and 16 the needed length of work memory is +0 and the rest as it was. */
 #ifndef METSOVARY_H
 #define METSOVARY_H
 
@@ -85,11 +91,18 @@ metsovary_result metsovary_solve_plain(metsovary_shape, uint64_t right_sides, co
 metsovary_result metsovary_solve_blocked(metsovary_shape, uint64_t right_sides, const double *matrix, size_t, double *x, size_t, double *work, size_t);
 
 /* The variance of one unknown, in value, from a packed or a blocked factor: entry (unknown, unknown) of the inverse of the matrix that was factored, as two
- * substitutions compute it, in the unit of 1 over the matrix's. The caller scales it by the variance of unit weight, his own estimate of the measurement noise. It is value number `unknown` of
- * the solution for a right-hand side that is 1 there and +0 elsewhere, bit for bit, wherever the solver accepts that one. Only the entries whose row and column
- * are both `unknown` or later are read: whatever the others hold changes nothing. Work: n values. */
+ * substitutions compute it, in the unit of 1 over the matrix's. The caller scales it by the variance of unit weight, his own estimate of the measurement noise.
+ * It is value number `unknown` of the solution for a right-hand side that is 1 there and +0 elsewhere, bit for bit, wherever the solver accepts that one. Only the
+ * entries whose row and column are both `unknown` or later are read: whatever the others hold changes nothing. Work: n values. */
 metsovary_result metsovary_variance_plain(metsovary_shape, uint64_t unknown, const double *matrix, size_t, double *work, size_t);
 metsovary_result metsovary_variance_blocked(metsovary_shape, uint64_t unknown, const double *matrix, size_t, double *work, size_t);
+
+/* Convert a packed matrix or factor to LAPACK's rectangular full packed format, UPLO = 'L', and back, through a second memory: the source is only read, the target
+ * written whole, and each has n(n + 1)/2 values. Form 0 is TRANSR = 'N', form 1 TRANSR = 'T'. Values of every kind move with their bits kept. The format has no
+ * states of its own: both calls take the shape of a packed matrix or factor and return it as it was, and no call can tell that memory is RFP. No work memory; the
+ * block length is not judged. */
+metsovary_result metsovary_packed_to_rfp(metsovary_shape, uint64_t form, const double *source, size_t, double *target, size_t);
+metsovary_result metsovary_rfp_to_packed(metsovary_shape, uint64_t form, const double *source, size_t, double *target, size_t);
 
 #ifdef __cplusplus
 }

@@ -23,10 +23,10 @@ size_t place(enum layout layout, metsovary_shape shape, size_t i, size_t j) {
 
 /* ---- states ---- */
 
-enum operation { REARRANGE, FACTOR, SOLVE, VARIANCE };
+enum operation { REARRANGE, FACTOR, SOLVE, VARIANCE, CONVERT };
 
-/* a call, by what it does and the layout that it wants, and the shape that it is handed */
-typedef struct { enum operation operation; enum layout layout; metsovary_shape shape; } task;
+/* a call, by what it does and the layout that it wants, and the shape and the form that it is handed; the form is 0 where it takes none */
+typedef struct { enum operation operation; enum layout layout; metsovary_shape shape; uint64_t form; } task;
 
 typedef struct { enum operation operation; enum layout layout; uint64_t wanted, given; } state_row;
 
@@ -41,6 +41,8 @@ static const state_row state_rows[] = {
     {SOLVE, BLOCKED, METSOVARY_BLOCKED_FACTOR, METSOVARY_BLOCKED_FACTOR},
     {VARIANCE, PACKED, METSOVARY_PACKED_FACTOR, METSOVARY_PACKED_FACTOR},
     {VARIANCE, BLOCKED, METSOVARY_BLOCKED_FACTOR, METSOVARY_BLOCKED_FACTOR},
+    {CONVERT, PACKED, METSOVARY_PACKED_RAW, METSOVARY_PACKED_RAW},
+    {CONVERT, PACKED, METSOVARY_PACKED_FACTOR, METSOVARY_PACKED_FACTOR},
 };
 
 /* NULL where the state does not suit the call */
@@ -62,6 +64,7 @@ static metsovary_result answer(task t, uint64_t code, uint64_t where, double val
 }
 
 static size_t needed_work(task t) {
+    if (t.operation == CONVERT) return 0;
     bool by_blocks = t.operation == REARRANGE || (t.operation == FACTOR && t.layout == BLOCKED);
     return by_blocks ? needed(t.shape.order, t.shape.block) : t.shape.order;
 }
@@ -70,6 +73,7 @@ static uint64_t check_call(task t, size_t length, size_t work) {
     size_t n = t.shape.order, b = t.shape.block;
     if (n > 4000) return 1;
     if ((t.operation == REARRANGE || t.layout == BLOCKED) && (b == 0 || b > 200)) return 2;
+    if (t.form > 1) return 17;
     if (!row_of(t)) return 15;
     if (length != triangle(n)) return 3;
     if (work < needed_work(t)) return 4;
@@ -107,7 +111,7 @@ static void clear(double *work, size_t length) {
 /* ---- rearranging: values move as bits ---- */
 
 metsovary_result reference_rearrange(enum layout from, enum layout to, metsovary_shape shape, double *matrix, size_t length, double *work, size_t work_length) {
-    task asked = {REARRANGE, from, shape};
+    task asked = {REARRANGE, from, shape, 0};
     uint64_t code = check_call(asked, length, work_length);
     if (code) return answer(asked, code, 0, 0.0);
     uint64_t *old = malloc(length * 8 + 8);
@@ -116,6 +120,30 @@ metsovary_result reference_rearrange(enum layout from, enum layout to, metsovary
         for (size_t i = j; i < shape.order; i++) memcpy(&matrix[place(to, shape, i, j)], &old[place(from, shape, i, j)], 8);
     free(old);
     clear(work, needed_work(asked));
+    return answer(asked, 0, 0, 0.0);
+}
+
+/* ---- converting ---- */
+
+/* The packed place of the entry in row r and column c of the array of form 0, by document 02's sentence. */
+static size_t place_at(metsovary_shape shape, size_t r, size_t c) {
+    size_t n = shape.order, k = n / 2;
+    if (n % 2 == 0) return r > c ? place(PACKED, shape, r - 1, c) : place(PACKED, shape, k + c, k + r);
+    return r >= c ? place(PACKED, shape, r, c) : place(PACKED, shape, k + c, k + 1 + r);
+}
+
+metsovary_result reference_convert(enum way way, metsovary_shape shape, uint64_t form, const double *source, size_t length, double *target, size_t target_length) {
+    task asked = {CONVERT, PACKED, shape, form};
+    uint64_t code = check_call(asked, length, 0);
+    if (!code && target_length != triangle(shape.order)) code = 3;
+    if (code) return answer(asked, code, 0, 0.0);
+    size_t rows = shape.order % 2 ? shape.order : shape.order + 1, columns = (shape.order + 1) / 2;
+    for (size_t c = 0; c < columns; c++)
+        for (size_t r = 0; r < rows; r++) {
+            size_t packed = place_at(shape, r, c), rfp = form == 0 ? r + c * rows : c + r * columns;
+            if (way == PACKED_TO_RFP) memcpy(&target[rfp], &source[packed], 8);
+            else memcpy(&target[packed], &source[rfp], 8);
+        }
     return answer(asked, 0, 0, 0.0);
 }
 
@@ -131,7 +159,7 @@ static double *load(enum layout layout, metsovary_shape shape, size_t first, con
 }
 
 metsovary_result reference_factor(enum layout layout, metsovary_shape shape, double *matrix, size_t length, double *work, size_t work_length) {
-    task asked = {FACTOR, layout, shape};
+    task asked = {FACTOR, layout, shape, 0};
     size_t n = shape.order;
     uint64_t code = check_call(asked, length, work_length);
     if (code) return answer(asked, code, 0, 0.0);
@@ -201,7 +229,7 @@ static bool substitute(size_t n, const double *l, double *y) {
 }
 
 metsovary_result reference_solve(enum layout layout, metsovary_shape shape, uint64_t m, const double *matrix, size_t length, double *x, size_t x_length, double *work, size_t work_length) {
-    task asked = {SOLVE, layout, shape};
+    task asked = {SOLVE, layout, shape, 0};
     size_t n = shape.order;
     uint64_t code = check_call(asked, length, work_length);
     if (code) return answer(asked, code, 0, 0.0);
@@ -228,7 +256,7 @@ metsovary_result reference_solve(enum layout layout, metsovary_shape shape, uint
 }
 
 metsovary_result reference_variance(enum layout layout, metsovary_shape shape, uint64_t unknown, const double *matrix, size_t length, double *work, size_t work_length) {
-    task asked = {VARIANCE, layout, shape};
+    task asked = {VARIANCE, layout, shape, 0};
     uint64_t code = check_call(asked, length, work_length);
     if (code) return answer(asked, code, 0, 0.0);
     if (unknown >= shape.order) return answer(asked, 14, 0, 0.0);
@@ -422,5 +450,16 @@ metsovary_result compare_variance(enum layout layout, metsovary_shape shape, uin
     compared(layout == PACKED ? "variance_plain" : "variance_blocked", shape, got, wanted, memory_same(a, matrix) && memory_same(w, work));
     memory_free(a);
     memory_free(w);
+    return got;
+}
+
+metsovary_result compare_convert(enum way way, metsovary_shape shape, uint64_t form, memory source, memory target) {
+    memory s = memory_copy(source), t = memory_copy(target);
+    metsovary_result wanted = reference_convert(way, shape, form, s.values, s.length, t.values, t.length);
+    metsovary_result got = way == PACKED_TO_RFP ? metsovary_packed_to_rfp(shape, form, source.values, source.length, target.values, target.length)
+                                                : metsovary_rfp_to_packed(shape, form, source.values, source.length, target.values, target.length);
+    compared(way == PACKED_TO_RFP ? "packed_to_rfp" : "rfp_to_packed", shape, got, wanted, memory_same(s, source) && memory_same(t, target));
+    memory_free(s);
+    memory_free(t);
     return got;
 }

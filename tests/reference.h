@@ -1,4 +1,4 @@
-/* Another implementation of the eight calls, by document 01's formulas and naive loops, with the processor's square root; and guarded memory to compare all of it. */
+/* Another implementation of the ten calls, by the formulas of documents 01 and 02 and naive loops, with the processor's square root; and guarded memory to compare all of it. */
 #ifndef REFERENCE_H
 #define REFERENCE_H
 
@@ -10,8 +10,9 @@
 #include "../include/metsovary.h"
 
 enum layout { PACKED, BLOCKED };
+enum way { PACKED_TO_RFP, RFP_TO_PACKED };
 
-/* ---- document 01's places and rules ---- */
+/* ---- places and rules ---- */
 
 size_t triangle(size_t n);          /* values of a matrix */
 size_t needed(size_t n, size_t b);  /* values of work memory of a rearranger and of the blocked factor; of the other calls they are n */
@@ -20,6 +21,7 @@ metsovary_result reference_rearrange(enum layout from, enum layout to, metsovary
 metsovary_result reference_factor(enum layout, metsovary_shape, double *matrix, size_t, double *work, size_t);
 metsovary_result reference_solve(enum layout, metsovary_shape, uint64_t m, const double *matrix, size_t, double *x, size_t, double *work, size_t);
 metsovary_result reference_variance(enum layout, metsovary_shape, uint64_t unknown, const double *matrix, size_t, double *work, size_t);
+metsovary_result reference_convert(enum way, metsovary_shape, uint64_t form, const double *source, size_t, double *target, size_t);
 
 /* ---- memory with guards on both sides ---- */
 
@@ -56,5 +58,6 @@ metsovary_result compare_rearrange(enum layout from, enum layout to, metsovary_s
 metsovary_result compare_factor(enum layout, metsovary_shape, memory matrix, memory work);
 metsovary_result compare_solve(enum layout, metsovary_shape, uint64_t m, memory matrix, memory x, memory work);
 metsovary_result compare_variance(enum layout, metsovary_shape, uint64_t unknown, memory matrix, memory work);
+metsovary_result compare_convert(enum way, metsovary_shape, uint64_t form, memory source, memory target);
 
 #endif
