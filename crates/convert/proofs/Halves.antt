@@ -103,17 +103,15 @@ module _ (form n left right : ℕ) (rows : ByRows form n left right) where
       let at = rows i j 0 y low high e in
       omega (arith, rw (add-zero i) at at)
 
--- from the first column of row i on
-pub place-from-left : (form n left right : ℕ)
-    → ByRows form n left right
-    → (i j k : ℕ)
-    → left ≤ j
-    → j < right
-    → Entry n i left
-    → rfpPlace form n (i + k) j ≡ rfpPlace form n i left + k * stride form n + (j - left)
-place-from-left form n left right rows i j k low high e =
-    let column : left + (j - left) ≡ j = omega arith in
-    rw column at (rows i left k (j - left) (omega arith) (omega arith) e)
+  -- from the first column of row i on
+  pub place-from-left : (i j k : ℕ)
+      → left ≤ j
+      → j < right
+      → Entry n i left
+      → rfpPlace form n (i + k) j ≡ rfpPlace form n i left + k * stride form n + (j - left)
+  place-from-left i j k low high e =
+      let column : left + (j - left) ≡ j = omega arith in
+      rw column at (rows i left k (j - left) (omega arith) (omega arith) e)
 
 -- down column j, in source and target alike
 pub down-column :

@@ -65,17 +65,17 @@ fn rows_to_packed(
     }
 }
 
-// The places of column j in the eight rows from i on.
-fn rfp_places8(form: usize, shape: Shape, i: usize, j: usize) -> [usize; 8]
+// The places of column j in the four rows from i on; the others are zeros.
+fn rfp_places4(form: usize, shape: Shape, i: usize, j: usize) -> [usize; 8]
     requires { ⌜ shape .order ≤ maxOrder ⌝ }
     requires { ⌜ Entry (shape .order) i j ⌝ }
-    ensures { λ at. ⌜ ((k : ℕ) → k < 8 → getD at k 0 ≡ rfpPlace form (shape .order) i j + k * Halves.stride form (shape .order)) ⌝ }
+    ensures { λ at. ⌜ ((k : ℕ) → k < 4 → getD at k 0 ≡ rfpPlace form (shape .order) i j + k * Halves.stride form (shape .order)) ⌝ }
 {
     let step = stride(form, shape);
     let mut places = [0; 8];
     let mut at = shape.rfp_place(form, i, j);
     let mut k = 0;
-    while k < 8 {
+    while k < 4 {
         places[k] = at;
         at += step;
         k += 1;
@@ -98,7 +98,7 @@ fn rows4_to_packed(
     requires { ⌜ ByRows form (shape .order) left right ⌝ }
     ensures { λ _. ⌜ Moved RfpToPacked form (shape .order) i (i + 4) left right (now (source .entry)) (now (target .entry)) (now (target .exit)) ⌝ }
 {
-    let rows = rfp_places8(form, shape, i, left);
+    let rows = rfp_places4(form, shape, i, left);
     let mut to = shape.packed_place(i, left);
     let mut j = left;
     while j < right {

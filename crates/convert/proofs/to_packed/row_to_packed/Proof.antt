@@ -9,11 +9,10 @@ use Rattle.shape.specs.Places.{triangle, packedPlace, rfpPlace}
 use Rattle.shape.specs.Layouts.{Entry}
 use Rattle.shape.proofs.Bounds.{triangle-le}
 use Rattle.shape.proofs.Columns.{packed-place-next-column}
-use Rattle.shape.proofs.Bijections.{packed-bijection}
 use Rattle.calls.specs.declared.Conversion.the-variants.{RfpToPacked}
-use Rattle.kernels.proofs.Transfers.{moved-no-columns, join-columns, moved-entry}
+use Rattle.kernels.proofs.Transfers.{moved-no-columns, join-columns}
 use Rattle.convert.specs.Halves.{Moved}
-use Rattle.convert.proofs.Halves.{rfp-place-below, packed-place-below, place-from-left}
+use Rattle.convert.proofs.Halves.{rfp-place-below, packed-place-below, place-from-left, moved-at}
 use Rattle.convert.proofs.to_packed.row_to_packed.Statement.{statement}
 use Rattle.convert.proofs.to_packed.row_to_packed.Tie as tie
 
@@ -100,9 +99,7 @@ loop-again c =
       omega arith,
       omega (arith, packed-place-next-column n (args .i) (at .j) (omega arith)),
       join-columns (at .inv .5)
-          (rw (sym (entry .0), at .inv .4)
-          (moved-entry (rfpPlace (args .form) n) (packedPlace n) (Entry n) (packed-bijection n .apart) (args .source .now) (at .target) (args .i)
-          (at .j) (omega arith) (omega (arith, entry)))),
+          (moved-at RfpToPacked (args .form) n (omega arith) (omega arith) (sym (entry .0)) (at .inv .4)),
     )
 
 same-length : tie.Need-same-length Inv-loop μ-loop

@@ -28,8 +28,8 @@ Inv-loop form shape i left right source target₀ rows to₀ j₀ target to j =
 abbrev μ-loop : tie.MeasureT-loop
 μ-loop form shape i left right source target₀ rows to₀ j₀ target to j = right - j
 
-rfp-places8-requires : tie.Need-rfp-places8-requires Inv-loop μ-loop
-rfp-places8-requires c κs = (omega arith, omega arith)
+rfp-places4-requires : tie.Need-rfp-places4-requires Inv-loop μ-loop
+rfp-places4-requires c κs = (omega arith, omega arith)
 
 packed-place-requires : tie.Need-packed-place-requires Inv-loop μ-loop
 packed-place-requires c κs = (omega arith, omega arith)
@@ -42,13 +42,13 @@ rows-at : (c : tie.In-loop Inv-loop μ-loop) (k : ℕ)
     → k < 4
     → let args = c .before .before .before .before .before .before .args in
     let j = c .before .loop .j in
-    getD (c .before .before .before .rfp-places8 .result) k 0 + (j - args .left) ≡ rfpPlace (args .form) (args .shape .order) (args .i + k) j
+    getD (c .before .before .before .rfp-places4 .result) k 0 + (j - args .left) ≡ rfpPlace (args .form) (args .shape .order) (args .i + k) j
 rows-at c k h =
     let args = c .before .before .before .before .before .before .args in
     let j = c .before .loop .j in
     let rows = c .before .before .before .before .before .before .pre .1 .1 in
     let along = place-from-left (args .form) (args .shape .order) (args .left) (args .right) rows (args .i) j k (omega arith) (omega arith) (omega arith) in
-    omega (arith, c .before .before .before .rfp-places8 .ensures k (omega arith), along)
+    omega (arith, c .before .before .before .rfp-places4 .ensures k h, along)
 
 inside : (c : tie.In-loop Inv-loop μ-loop)
     → let n = c .before .before .before .before .before .before .args .shape .order in
@@ -121,7 +121,7 @@ rows4-to-packed-spec =
     (tie.spec
     Inv-loop
     μ-loop
-    rfp-places8-requires
+    rfp-places4-requires
     packed-place-requires
     loop-holds
     sub-gather-part8

@@ -1,4 +1,4 @@
--- `convert::to_packed::rfp_places8` meets its contract. The loop's invariant: the first k places are stored, and `at` is place k. The measure is the number
+-- `convert::to_packed::rfp_places4` meets its contract. The loop's invariant: the first k places are stored, and `at` is place k. The measure is the number
 -- of places left. Assumes nothing.
 use mathlib.Core.Path.{_≡_, refl, sym}
 use Prim.Native.Nat.{ℕ, _+_, _-_, _*_, _≤_}
@@ -7,12 +7,12 @@ use lib.ListN.{length}
 use Rattle.shape.proofs.Bounds.{triangle-le}
 use Rattle.kernels.proofs.Loops.{Stored, stored-none, stored-next}
 use Rattle.convert.proofs.Halves.{rfp-place-below, stride-le}
-use Rattle.convert.proofs.to_packed.rfp_places8.Statement.{statement}
-use Rattle.convert.proofs.to_packed.rfp_places8.Tie as tie
+use Rattle.convert.proofs.to_packed.rfp_places4.Statement.{statement}
+use Rattle.convert.proofs.to_packed.rfp_places4.Tie as tie
 
 abbrev Inv-loop : tie.InvT-loop
 Inv-loop form i j step places₀ at₀ k₀ places at k =
-    (k ≤ 8)
+    (k ≤ 4)
     × (step ≤ 4001)
     × (at ≤ 8002000 + k * 4001)
     × (at ≡ at₀ + k * step)
@@ -20,7 +20,7 @@ Inv-loop form i j step places₀ at₀ k₀ places at k =
     × Stored 0 (λ q. at₀ + q * step) places₀ k places
 
 abbrev μ-loop : tie.MeasureT-loop
-μ-loop form i j step places₀ at₀ k₀ places at k = 8 - k
+μ-loop form i j step places₀ at₀ k₀ places at k = 4 - k
 
 stride-requires : tie.Need-stride-requires Inv-loop μ-loop
 stride-requires c κs = omega arith
@@ -73,8 +73,8 @@ returns c =
     let step = c .before .before .before .stride .ensures in
     rw (sym start, sym step) (c .before .loop .inv .5 .done k (omega arith))
 
-pub rfp-places8-spec : {M : Type 1} → statement M
-rfp-places8-spec =
+pub rfp-places4-spec : {M : Type 1} → statement M
+rfp-places4-spec =
     tie.close
     (tie.spec
     Inv-loop
