@@ -18,10 +18,10 @@ use Rattle.calls.specs.declared.Judgement.{Judgement}
 use Rattle.calls.specs.declared.states.State.the-variants.{Raw, Factored}
 use Rattle.calls.specs.declared.Layout.{Layout}
 use Rattle.calls.specs.declared.Layout.the-variants.{Packed, Blocked}
-use Rattle.calls.specs.Sequences.{iterate, grow, tabulate, all, every}
+use Rattle.calls.specs.Sequences.{iterate, grow, tabulate, all, every, contains, passing}
 use Rattle.calls.specs.Triangles.{entry, height, placeOf, load, storeColumn, store}
 use Rattle.calls.specs.Arithmetic.{minusProducts, pivot, quotient, below, factorColumn, cholesky, forward, backwardRows, backward}
-use Rattle.calls.specs.Refusals.{firstRefusal, lowestRefusal, rule1, rule2, rule17, rule15, rule3, rule4, rule14, rule5, rule6, finiteRule, rule9, rule11, weak, rule16, columnRules, columnVerdict, columnExact, rule12}
+use Rattle.calls.specs.Refusals.{firstRefusal, lowestRefusal, rule1, rule2, rule17, rule15, rule3, risesAt, rule20, rule4, rule14, rule5, rule6, finiteRule, rule9, rule11, weak, rule16, columnRules, columnVerdict, columnExact, rule12}
 use Rattle.calls.specs.States.{stateNumber, lookUp}
 use Rattle.calls.specs.Calls.{Done, stateAfter, answer, clear, rearrangerChecks, moved, rearrange, factorChecks, columnsVerdict, columnsExact, factored, factorize, solverChecks, rhsPart, solution, rhsVerdict, solutions, solved, solve}
 use Rattle.calls.specs.Pipelines.{Ended, plainPipeline, blockedPipeline}
@@ -29,6 +29,7 @@ use Rattle.calls.specs.Variances.{unitRhs, columnsFrom, varianceChecks, 
 use Rattle.calls.specs.declared.Conversion.{Conversion}
 use Rattle.calls.specs.declared.Conversion.the-variants.{PackedToRfp, RfpToPacked}
 use Rattle.calls.specs.Conversions.{converterChecks, convert}
+use Rattle.calls.specs.Strikes.{kept, principal, front, struck, strikeChecks, strike}
 use Rattle.calls.proofs.FactorsBy.{factorizeBy}
 use Rattle.calls.proofs.Stepwise.{shapeIn, force, plainStepwise, plain-stepwise, blockedStepwise, blocked-stepwise}
 use Rattle.calls.proofs.WeakFirst.{overflowFirst}
@@ -267,6 +268,19 @@ conversionRefused form shape source target answer =
     let e = convert RfpToPacked form shape (memory source) (memory target) in
     gives (d .result) answer && sameShape (d .result .shape) shape && holds (d .target) target
     && gives (e .result) answer && sameShape (e .result .shape) shape && holds (e .target) target
+
+-- list n b matrix; the order and the matrix afterwards
+strikes : List ℕ → ℕ → ℕ → List ℕ → ℕ → List ℕ → Bool
+unfolding memory holds gives sameShape
+strikes list n b matrix order after =
+    let d = strike (raw Packed n b) list (memory matrix) in
+    gives (d .result) success && sameShape (d .result .shape) (raw Packed order b) && holds (d .matrix) after
+
+strikeRefused : List ℕ → Shape → List ℕ → Answer → Bool
+unfolding memory holds gives sameShape
+strikeRefused list shape matrix answer =
+    let d = strike shape list (memory matrix) in
+    gives (d .result) answer && sameShape (d .result .shape) shape && holds (d .matrix) matrix
 
 -- a call of a state, with the states from one on: the code that each gives, and the state returned
 statesAre : (ℕ → CallResult) → ℕ → List (ℕ × ℕ) → Bool
@@ -737,6 +751,57 @@ conversionRows =
     ∷ statesAre (λ s. convert RfpToPacked 1 (shapeIn s 1 1) (memory (one ∷ [])) (memory (two ∷ [])) .result) 0 ((0, 0) ∷ (15, 1) ∷ (0, 2) ∷ (15, 3) ∷ (15, 4) ∷ (15, 5) ∷ [])
     ∷ []
 
+-- the same values, of a matrix of order 4
+abbrev four4 : List ℕ
+four4 = 1 ∷ 2 ∷ 3 ∷ 4 ∷ 5 ∷ 6 ∷ 7 ∷ 8 ∷ 9 ∷ 10 ∷ []
+
+pub strikeRows : List Bool
+unfolding strikes strikeRefused statesAre memory
+strikeRows =
+    -- an empty list changes nothing
+    strikes [] 0 1 [] 0 []
+    ∷ strikes [] 4 1 four4 4 four4
+    -- one unknown, two and three
+    ∷ strikes (0 ∷ []) 4 1 four4 3 (5 ∷ 6 ∷ 7 ∷ 8 ∷ 9 ∷ 10 ∷ 0 ∷ 0 ∷ 0 ∷ 0 ∷ [])
+    ∷ strikes (1 ∷ []) 4 1 four4 3 (1 ∷ 3 ∷ 4 ∷ 8 ∷ 9 ∷ 10 ∷ 0 ∷ 0 ∷ 0 ∷ 0 ∷ [])
+    ∷ strikes (2 ∷ []) 4 1 four4 3 (1 ∷ 2 ∷ 4 ∷ 5 ∷ 7 ∷ 10 ∷ 0 ∷ 0 ∷ 0 ∷ 0 ∷ [])
+    ∷ strikes (3 ∷ []) 4 1 four4 3 (1 ∷ 2 ∷ 3 ∷ 5 ∷ 6 ∷ 8 ∷ 0 ∷ 0 ∷ 0 ∷ 0 ∷ [])
+    ∷ strikes (0 ∷ 2 ∷ []) 4 1 four4 2 (5 ∷ 7 ∷ 10 ∷ 0 ∷ 0 ∷ 0 ∷ 0 ∷ 0 ∷ 0 ∷ 0 ∷ [])
+    ∷ strikes (1 ∷ 2 ∷ []) 4 1 four4 2 (1 ∷ 4 ∷ 10 ∷ 0 ∷ 0 ∷ 0 ∷ 0 ∷ 0 ∷ 0 ∷ 0 ∷ [])
+    ∷ strikes (1 ∷ 3 ∷ []) 4 1 four4 2 (1 ∷ 3 ∷ 8 ∷ 0 ∷ 0 ∷ 0 ∷ 0 ∷ 0 ∷ 0 ∷ 0 ∷ [])
+    ∷ strikes (0 ∷ 1 ∷ 3 ∷ []) 4 1 four4 1 (8 ∷ 0 ∷ 0 ∷ 0 ∷ 0 ∷ 0 ∷ 0 ∷ 0 ∷ 0 ∷ 0 ∷ [])
+    -- all of them
+    ∷ strikes (0 ∷ []) 1 1 (infinity ∷ []) 0 (0 ∷ [])
+    ∷ strikes (0 ∷ 1 ∷ 2 ∷ 3 ∷ []) 4 1 four4 0 (replicate 10 0)
+    -- values of every kind are moved and struck; b is not judged
+    ∷ strikes (1 ∷ []) 3 0 (minusZero ∷ notANumber ∷ infinity ∷ minusInfinity ∷ minusZero ∷ notANumber ∷ []) 2 (minusZero ∷ infinity ∷ notANumber ∷ 0 ∷ 0 ∷ 0 ∷ [])
+    ∷ strikes (0 ∷ []) 2 201 (infinity ∷ minusZero ∷ minusOne ∷ []) 1 (minusOne ∷ 0 ∷ 0 ∷ [])
+    -- 20 at the first offending position: not below n, equal to the one before, below the one before
+    ∷ strikeRefused (0 ∷ []) (raw Packed 0 1) [] (20, 0, 0, false)
+    ∷ strikeRefused (4 ∷ []) (raw Packed 4 1) four4 (20, 0, 0, false)
+    ∷ strikeRefused (0x8000_0000_0000_0000 ∷ []) (raw Packed 4 1) four4 (20, 0, 0, false)
+    ∷ strikeRefused (0 ∷ 3 ∷ 0xFFFF_FFFF_FFFF_FFFF ∷ []) (raw Packed 4 1) four4 (20, 2, 0, false)
+    ∷ strikeRefused (1 ∷ 1 ∷ []) (raw Packed 4 1) four4 (20, 1, 0, false)
+    ∷ strikeRefused (0 ∷ 0 ∷ []) (raw Packed 1 1) (one ∷ []) (20, 1, 0, false)
+    ∷ strikeRefused (3 ∷ 2 ∷ []) (raw Packed 4 1) four4 (20, 1, 0, false)
+    ∷ strikeRefused (0 ∷ 2 ∷ 1 ∷ 3 ∷ []) (raw Packed 4 1) four4 (20, 2, 0, false)
+    ∷ strikeRefused (0 ∷ 1 ∷ 2 ∷ 3 ∷ 4 ∷ []) (raw Packed 4 1) four4 (20, 4, 0, false)
+    -- a fault behind a fault
+    ∷ strikeRefused (3 ∷ 2 ∷ 1 ∷ []) (raw Packed 4 1) four4 (20, 1, 0, false)
+    ∷ strikeRefused (5 ∷ 4 ∷ []) (raw Packed 4 1) four4 (20, 0, 0, false)
+    ∷ strikeRefused (0 ∷ 0 ∷ 4 ∷ []) (raw Packed 4 1) four4 (20, 1, 0, false)
+    ∷ strikeRefused (0 ∷ 9 ∷ 1 ∷ 1 ∷ []) (raw Packed 4 1) four4 (20, 1, 0, false)
+    -- 3, and 1 before 15 before 3 before 20
+    ∷ strikeRefused [] (raw Packed 2 1) (one ∷ two ∷ []) (3, 0, 0, false)
+    ∷ strikeRefused (0 ∷ []) (raw Packed 2 1) (one ∷ two ∷ three ∷ four ∷ []) (3, 0, 0, false)
+    ∷ strikeRefused (9 ∷ []) (raw Blocked 4001 0) [] (1, 0, 0, false)
+    ∷ strikeRefused (9 ∷ []) (factor Packed 2 0) [] (15, 0, 0, false)
+    ∷ strikeRefused (9 ∷ []) (raw Packed 2 0) [] (3, 0, 0, false)
+    -- every state and one past the last: a packed raw matrix, whose state stays
+    ∷ statesAre (λ s. strike (shapeIn s 1 1) [] (memory (one ∷ [])) .result) 0 ((0, 0) ∷ (15, 1) ∷ (15, 2) ∷ (15, 3) ∷ (15, 4) ∷ (15, 5) ∷ [])
+    ∷ statesAre (λ s. strike (shapeIn s 1 1) (0 ∷ []) (memory (one ∷ [])) .result) 0 ((0, 0) ∷ (15, 1) ∷ (15, 2) ∷ (15, 3) ∷ (15, 4) ∷ (15, 5) ∷ [])
+    ∷ []
+
 rows-hold : T (all (λ r. r) rows)
 unfolding rows rearrange rearrangerChecks moved factorize factorChecks factored columnsVerdict columnsExact solve solverChecks solved rhsVerdict rhsPart solution solutions clear firstRefusal lowestRefusal stateAfter lookUp rule1 rule2 rule15 rule3 rule4 rule5 rule6 finiteRule rule9 rule11 weak rule16 columnRules columnVerdict columnExact rule12 minusProducts pivot quotient below factorColumn cholesky forward backwardRows backward iterate grow tabulate all every entry height placeOf load storeColumn store kind finite positive root squaresTo exact judged triangle packedPlace blockedPlace blockWork toBits ofBits mul sub div lt
 rows-hold = tt
@@ -749,6 +814,10 @@ conversions-hold : T (all (λ r. r) conversionRows)
 unfolding conversionRows convert converterChecks firstRefusal stateAfter lookUp rule1 rule2 rule17 rule15 rule3 iterate grow tabulate all height load storeColumn store triangle packedPlace rfpRows rfpColumns rfpRow rfpColumn rfpPlace toBits ofBits
 conversions-hold = tt
 
+strikes-hold : T (all (λ r. r) strikeRows)
+unfolding strikeRows strike strikeChecks kept principal front struck contains passing firstRefusal lowestRefusal stateAfter lookUp rule1 rule2 rule15 rule3 risesAt rule20 iterate grow tabulate all entry height load storeColumn store triangle packedPlace toBits ofBits
+strikes-hold = tt
+
 stepwise-hold : T (all (λ r. r) (pipelineRows plainStepwise blockedStepwise))
 unfolding pipelineRows plainStepwise blockedStepwise force rearrange rearrangerChecks moved factorize factorChecks factored columnsVerdict columnsExact solve solverChecks solved rhsVerdict rhsPart solution solutions clear firstRefusal lowestRefusal stateAfter lookUp rule1 rule2 rule15 rule3 rule4 rule5 rule6 finiteRule rule9 rule11 weak rule16 columnRules columnVerdict columnExact rule12 minusProducts pivot quotient below factorColumn cholesky forward backwardRows backward iterate grow tabulate all every entry height placeOf load storeColumn store kind finite positive root squaresTo exact judged triangle packedPlace blockedPlace blockWork toBits ofBits mul sub div lt
 stepwise-hold = tt
@@ -760,12 +829,13 @@ blocked-is : blockedStepwise ≡ blockedPipeline
 blocked-is = fun-ext (λ n. fun-ext (λ b. fun-ext (λ m. fun-ext (λ matrix. fun-ext (λ rhs. fun-ext (λ work. blocked-stepwise n b m matrix rhs work))))))
 
 pub examples-hold :
-    T (all (λ r. r) rows) × T (all (λ r. r) varianceRows) × T (all (λ r. r) conversionRows)
+    T (all (λ r. r) rows) × T (all (λ r. r) varianceRows) × T (all (λ r. r) conversionRows) × T (all (λ r. r) strikeRows)
     × T (all (λ r. r) (pipelineRows plainPipeline blockedPipeline))
 examples-hold = (
   rows-hold,
   variances-hold,
   conversions-hold,
+  strikes-hold,
   subst (λ (p : Pipeline). T (all (λ r. r) (pipelineRows p blockedPipeline))) plain-is
       (subst (λ (p : Pipeline). T (all (λ r. r) (pipelineRows plainStepwise p))) blocked-is stepwise-hold),
 )

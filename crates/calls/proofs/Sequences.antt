@@ -1,4 +1,4 @@
--- Laws of specs/Sequences.antt: lengths and elements of grown lists, and what `all` and `every` say of each element. Assumes nothing.
+-- Laws of specs/Sequences.antt: lengths and elements of grown lists, steps that agree, and what `all` and `every` say of each element. Assumes nothing.
 use Prim.Native.Nat.{ℕ, zero, suc, _+_, _≤_, _<_}
 use native.Mathlib.Nat.{zero-add, suc-add}
 use native.Mathlib.Numerals.{add-one}
@@ -11,7 +11,7 @@ use lib.Dec.{T}
 use lib.ListN.{length, getD, take, drop, length-append, List·getD-append}
 use lib.Seq.{getD-at, ext-getD, take-suc, take-nil, drop-nil}
 use lib.Ieee.Fits.{and-i, and-l, and-r}
-use Rattle.calls.specs.Sequences.{grow, tabulate, all, every}
+use Rattle.calls.specs.Sequences.{iterate, grow, tabulate, all, every}
 
 -- ---- grown lists
 
@@ -51,6 +51,15 @@ unfolding tabulate grow
 tabulate-same f g zero same = refl
 tabulate-same f g (suc k) same =
     ap₂ (λ xs x. xs ++ (x ∷ [])) (tabulate-same f g k (λ i h. same i (omega arith))) (same k (omega arith))
+
+-- ---- steps
+
+-- steps that agree at each place on the way of the second
+pub iterate-alike :
+    {A : Type 0} (f g : ℕ → A → A) (n : ℕ) (a : A) → ((k : ℕ) → k < n → f k (iterate g k a) ≡ g k (iterate g k a)) → iterate f n a ≡ iterate g n a
+unfolding iterate
+iterate-alike f g zero a h = refl
+iterate-alike f g (suc k) a h = ap (f k) (iterate-alike f g k a (λ i p. h i (omega arith))) ∙ h k (omega arith)
 
 -- ---- all
 

@@ -12,7 +12,7 @@ use Rattle.calls.specs.declared.Verdict.{Verdict}
 use Rattle.calls.specs.declared.Layout.{Layout}
 use Rattle.calls.specs.declared.Layout.the-variants.{Packed, Blocked}
 use Rattle.calls.specs.declared.Call.{Call}
-use Rattle.calls.specs.declared.Call.the-variants.{Rearranger, Factor, Solver, Variance, Converter}
+use Rattle.calls.specs.declared.Call.the-variants.{Rearranger, Factor, Solver, Variance, Converter, Strike}
 use Rattle.calls.specs.declared.states.State.{State}
 use Rattle.calls.specs.declared.states.State.the-variants.{Raw, Factored, Spent}
 use Rattle.calls.specs.declared.states.Transition.{Transition}
@@ -43,6 +43,7 @@ past-last (Factor layout) state h = rw (other (Raw layout) state h) refl
 past-last (Solver layout) state h = rw (other (Factored layout) state h) refl
 past-last (Variance layout) state h = rw (other (Factored layout) state h) refl
 past-last Converter state h = rw (other (Raw Packed) state h, other (Factored Packed) state h) refl
+past-last Strike state h = rw (other (Raw Packed) state h) refl
 
 -- ---- by the verdict
 

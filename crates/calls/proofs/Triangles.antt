@@ -86,6 +86,17 @@ load-one n m = load-same (blockedPlace n 1) (packedPlace n) n m (blocked-place-o
 abbrev pub stored : (ℕ → ℕ → ℕ) → Triangle → ℕ → List Float → List Float
 stored place t k m = iterate (λ j l. storeColumn place j (getD t j []) l) k m
 
+-- a place where none of them is
+pub stored-apart :
+    (place : ℕ → ℕ → ℕ) (n : ℕ) (t : Triangle) (m : List Float) (k q : ℕ) (d : Float) → ((j : ℕ) → j < k → length (getD t j []) ≡ n - j) →
+    ((i j : ℕ) → Entry n i j → j < k → q ≢ place i j) → getD (stored place t k m) q d ≡ getD m q d
+unfolding iterate storeColumn
+stored-apart place n t m zero q d hs apart = refl
+stored-apart place n t m (suc k) q d hs apart =
+    writes-other (λ r. place (k + r) k) (λ r. getD (getD t k []) r nan) (stored place t k m) (length (getD t k [])) q d
+    (λ r h. apart (k + r) k (record { lower = omega arith; inside = omega (arith, hs k (omega arith)) }) (omega arith))
+    ∙ stored-apart place n t m k q d (λ j h. hs j (omega arith)) (λ i j e h. apart i j e (omega arith))
+
 module _ (place : ℕ → ℕ → ℕ) (n : ℕ) (bij : Bijection place n) where
   length-column : (j : ℕ) (c m : List Float) → length (storeColumn place j c m) ≡ length m
   unfolding storeColumn
@@ -146,11 +157,7 @@ module _ (place : ℕ → ℕ → ℕ) (n : ℕ) (bij : Bijection place n) where
     pub stored-other :
         (k : ℕ) → ((j : ℕ) → j < k → length (getD t j []) ≡ n - j) →
         (i j : ℕ) (d : Float) → Entry n i j → k ≤ j → getD (stored place t k m) (place i j) d ≡ getD m (place i j) d
-    unfolding iterate
-    stored-other zero hs i j d e h = refl
-    stored-other (suc k) hs i j d e h =
-        column-other (getD t k []) (stored place t k m) i j k d e (λ g. omega arith) (hs k (omega arith))
-        ∙ stored-other k (λ c q. hs c (omega arith)) i j d e (omega arith)
+    stored-other k hs i j d e h = stored-apart place n t m k (place i j) d hs (λ i′ j′ e′ before g. omega (arith, bij .apart i j i′ j′ e e′ g .1))
 
   pub length-store : (t : Triangle) (m : List Float) → length (store place t m) ≡ length m
   unfolding store

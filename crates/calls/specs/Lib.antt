@@ -9,3 +9,4 @@ pub mod Calls
 pub mod Pipelines
 pub mod Variances
 pub mod Conversions
+pub mod Strikes

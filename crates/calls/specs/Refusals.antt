@@ -15,7 +15,7 @@ use Rattle.shape.specs.Places.{triangle, blockWork}
 use Rattle.calls.specs.declared.Verdict.{Verdict}
 use Rattle.calls.specs.Sequences.{all}
 use Rattle.calls.specs.declared.Call.{Call}
-use Rattle.calls.specs.declared.Call.the-variants.{Rearranger, Factor, Solver, Variance, Converter}
+use Rattle.calls.specs.declared.Call.the-variants.{Rearranger, Factor, Solver, Variance, Converter, Strike}
 use Rattle.calls.specs.declared.Layout.the-variants.{Packed, Blocked}
 use Rattle.calls.specs.Triangles.{Triangle, entry}
 use Rattle.calls.specs.Arithmetic.{pivot, below}
@@ -44,8 +44,8 @@ unfoldable pub lowestRefusal : (ℕ → Verdict) → ℕ → Verdict
 lowestRefusal judge zero = success
 lowestRefusal judge (suc k) = let before = lowestRefusal judge k in cond (accepted before) (judge k) before
 
--- A call is a rearranger from one layout to another, the factor, the solver or the variance of a layout, or a converter; document 01's plain calls are
--- those of the packed layout.
+-- A call is a rearranger from one layout to another, the factor, the solver or the variance of a layout, a converter, or the one that strikes unknowns;
+-- document 01's plain calls are those of the packed layout.
 abbrev pub byBlocks : Call → Bool
 byBlocks (Rearranger from to) = true
 byBlocks (Factor Packed) = false
@@ -55,6 +55,7 @@ byBlocks (Solver Blocked) = true
 byBlocks (Variance Packed) = false
 byBlocks (Variance Blocked) = true
 byBlocks Converter = false
+byBlocks Strike = false
 
 abbrev pub neededWork : Call → ℕ → ℕ → ℕ
 neededWork (Rearranger from to) n b = blockWork n b
@@ -63,6 +64,7 @@ neededWork (Factor Blocked) n b = blockWork n b
 neededWork (Solver layout) n b = n
 neededWork (Variance layout) n b = n
 neededWork Converter n b = 0
+neededWork Strike n b = 0
 
 -- 1. n is over 4,000.
 unfoldable pub rule1 : ℕ → Verdict
@@ -83,6 +85,14 @@ rule15 call state = refuseIf (not (suits (next call state))) (refusal 15 0 zero6
 -- 3. The matrix memory is not exactly n(n + 1)/2 values; of a converter, either memory.
 unfoldable pub rule3 : ℕ → ℕ → Verdict
 rule3 n matrixLength = refuseIf (not (eqb matrixLength (triangle n))) (refusal 3 0 zero64)
+
+-- 20. The list is not strictly rising or names an unknown not below n (place: first offending position in the list).
+unfoldable pub risesAt : ℕ → List ℕ → ℕ → Bool
+risesAt n list zero = ltb (getD list 0 0) n
+risesAt n list (suc p) = ltb (getD list (suc p) 0) n && ltb (getD list p 0) (getD list (suc p) 0)
+
+unfoldable pub rule20 : ℕ → List ℕ → Verdict
+rule20 n list = lowestRefusal (λ p. refuseIf (not (risesAt n list p)) (refusal 20 p zero64)) (length list)
 
 -- 4. The work memory has fewer than the needed values.
 unfoldable pub rule4 : Call → ℕ → ℕ → ℕ → Verdict

@@ -1,7 +1,9 @@
 -- Lists and steps in rising order.
-use Prim.Native.Nat.{ℕ, zero, suc}
-use mathlib.Core.Bool.{Bool, true, _&&_}
+use Prim.Native.Nat.{ℕ, zero, suc, _<_}
+use mathlib.Core.Bool.{Bool, true, false, cond, _&&_, _||_}
 use mathlib.Core.List.{List, [], _∷_, _++_}
+use lib.Dec.{eqb}
+use lib.ListN.{length, getD}
 
 -- step 0, then step 1, .., then step (count − 1)
 unfoldable pub iterate : {A : Type 0} → (ℕ → A → A) → ℕ → A → A
@@ -25,3 +27,17 @@ all test (x ∷ xs) = test x && all test xs
 unfoldable pub every : (ℕ → Bool) → ℕ → Bool
 every test zero = true
 every test (suc k) = every test k && test k
+
+-- each number is below those after it
+abbrev pub Rising : List ℕ → Type 0
+Rising xs = (i i′ : ℕ) → i < i′ → i′ < length xs → getD xs i 0 < getD xs i′ 0
+
+-- x stands in the list
+unfoldable pub contains : List ℕ → ℕ → Bool
+contains [] x = false
+contains (y ∷ ys) x = eqb x y || contains ys x
+
+-- the numbers below count of which the test holds, rising
+unfoldable pub passing : (ℕ → Bool) → ℕ → List ℕ
+passing test zero = []
+passing test (suc k) = passing test k ++ cond (test k) (k ∷ []) []

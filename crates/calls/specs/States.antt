@@ -5,7 +5,7 @@ use mathlib.Core.List.{List, [], _∷_}
 use lib.Dec.{eqb}
 use Rattle.calls.specs.declared.Layout.the-variants.{Packed, Blocked}
 use Rattle.calls.specs.declared.Call.{Call}
-use Rattle.calls.specs.declared.Call.the-variants.{Rearranger, Factor, Solver, Variance, Converter}
+use Rattle.calls.specs.declared.Call.the-variants.{Rearranger, Factor, Solver, Variance, Converter, Strike}
 use Rattle.calls.specs.declared.states.State.{State}
 use Rattle.calls.specs.declared.states.State.the-variants.{Raw, Factored, Spent}
 use Rattle.calls.specs.declared.states.Transition.{Transition}
@@ -26,6 +26,7 @@ transitions (Factor layout) = (Raw layout, Factored layout) ∷ []
 transitions (Solver layout) = (Factored layout, Factored layout) ∷ []
 transitions (Variance layout) = (Factored layout, Factored layout) ∷ []
 transitions Converter = (Raw Packed, Raw Packed) ∷ (Factored Packed, Factored Packed) ∷ []
+transitions Strike = (Raw Packed, Raw Packed) ∷ []
 
 -- looked up by the number of the wanted state; what has no row does not suit the call
 unfoldable pub lookUp : List (State × State) → ℕ → Transition

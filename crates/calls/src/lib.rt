@@ -20,13 +20,14 @@ pub enum Layout {
     Blocked,
 }
 
-// A rearranger moves a matrix from one layout to another, a converter from one memory to another.
+// A rearranger moves a matrix from one layout to another, a converter from one memory to another; the last one strikes unknowns from a matrix.
 pub enum Call {
     Rearranger(Layout, Layout),
     Factor(Layout),
     Solver(Layout),
     Variance(Layout),
     Converter,
+    Strike,
 }
 
 // Between packed memory and rectangular full packed memory.

@@ -71,6 +71,11 @@ pub fn next(call: Call, state: usize) -> Transition
                 State::Factored(Layout::Packed),
             )
         }
+        Call::Strike => row(
+            state,
+            State::Raw(Layout::Packed),
+            State::Raw(Layout::Packed),
+        ),
     }
 }
 

@@ -1,4 +1,4 @@
-// The checks before any work: rules 1 to 9 and 15 of crate calls, specs/Refusals.antt, in their order; 14 is in crate variance, 17 in crate convert. Sizes are multiplied only after the rules that bound them.
+// The checks before any work: rules 1 to 9 and 15 of crate calls, specs/Refusals.antt, in their order; 14 is in crate variance, 17 in crate convert, 20 in crate strike. Sizes are multiplied only after the rules that bound them.
 ghost use mathlib.Core.Path.{_≡_};
 ghost use mathlib.Core.List.{_∷_, []};
 ghost use Prim.Native.Nat.{_≤_, _<_};
@@ -43,6 +43,7 @@ fn by_blocks(call: Call) -> bool
             Layout::Blocked => true,
         },
         Call::Converter => false,
+        Call::Strike => false,
     }
 }
 
@@ -59,6 +60,7 @@ fn needed_work(call: Call, shape: Shape) -> usize
         Call::Solver(_) => shape.order,
         Call::Variance(_) => shape.order,
         Call::Converter => 0,
+        Call::Strike => 0,
     }
 }
 

@@ -1,5 +1,5 @@
 -- Packed memory whose columns before j are those of the factor: one column more, and the verdict on all columns. Assumes nothing.
-use Prim.Native.Nat.{ℕ, zero, suc, _+_, _-_, _≤_, _<_}
+use Prim.Native.Nat.{ℕ, suc, _+_, _-_, _≤_, _<_}
 use native.Mathlib.Numerals.{add-one}
 use native.Mathlib.Omega.{arith}
 use mathlib.Core.Path.{_≡_, refl, sym, ap, ap₂, _∙_}
@@ -21,20 +21,12 @@ use Rattle.calls.specs.Arithmetic.{minusProducts, pivot, quotient, below, facto
 use Rattle.calls.specs.Refusals.{success, accepted, lowestRefusal, columnRules, columnVerdict, columnExact}
 use Rattle.calls.specs.Judgements.{judgement, judgedTo}
 use Rattle.calls.specs.Calls.{judgeColumn, exactColumn, columnsVerdict, columnsExact}
-use Rattle.calls.proofs.Sequences.{tabulate-same}
+use Rattle.calls.proofs.Sequences.{tabulate-same, iterate-alike}
 use Rattle.calls.proofs.Triangles.{entry-load, stored, store-same, store-other}
 use Rattle.calls.proofs.Columns.{columns, column-of, shaped-columns, products-same}
 use Rattle.calls.proofs.Judging.{lowest-next, judged-stays}
 use Rattle.calls.proofs.ColumnRules.{rules-success, rules-place}
 use Rattle.plain_factor.specs.Steps.{held, Judged, Factored}
-
--- ---- steps that agree
-
-iterate-same :
-    {A : Type 0} (f g : ℕ → A → A) (n : ℕ) (x : A) → ((k : ℕ) → k < n → (y : A) → f k y ≡ g k y) → iterate f n x ≡ iterate g n x
-unfolding iterate
-iterate-same f g zero x h = refl
-iterate-same f g (suc k) x h = ap (f k) (iterate-same f g k x (λ i p. h i (omega arith))) ∙ h k (omega arith) (iterate g k x)
 
 -- ---- one column more
 
@@ -65,10 +57,9 @@ module _ (n : ℕ) (m : List Float) (size : length m ≡ triangle n) where
   prefix-next j h =
       ap (λ k. stored (packedPlace n) (columns n a (suc j)) k m) (shaped-columns n a (suc j) h .count)
       ∙ ap₂ (storeColumn (packedPlace n) j) (column-of n a (suc j) j (omega arith))
-      (iterate-same (λ k s. storeColumn (packedPlace n) k (getD (columns n a (suc j)) k []) s)
+      (iterate-alike (λ k s. storeColumn (packedPlace n) k (getD (columns n a (suc j)) k []) s)
       (λ k s. storeColumn (packedPlace n) k (getD (columns n a j) k []) s) j m
-      (λ k p s.
-      ap (λ c. storeColumn (packedPlace n) k c s) (column-of n a (suc j) k (omega arith) ∙ sym (column-of n a j k p))))
+      (λ k p. ap (λ c. storeColumn (packedPlace n) k c (stored (packedPlace n) (columns n a j) k m)) (column-of n a (suc j) k (omega arith) ∙ sym (column-of n a j k p))))
       ∙ ap (λ k. storeColumn (packedPlace n) j (factorColumn (height n) a j (columns n a j)) (stored (packedPlace n) (columns n a j) k m))
       (sym (shaped-columns n a j (omega arith) .count))
 

@@ -56,6 +56,12 @@ returns-2 c =
 row-requires-5 : tie.Need-row-requires-5
 row-requires-5 c κs = search needs
 
+enum-told-2 : tie.Need-enum-told-2
+enum-told-2 c = search needs
+
+row-requires-6 : tie.Need-row-requires-6
+row-requires-6 c κs = search needs
+
 returns-3 : tie.Need-returns-3
 unfolding lookUp
 returns-3 c =
@@ -79,6 +85,9 @@ returns-7 c =
     let raw = c .before .before .state-number2 in
     rw (c .before .before .before .enum-told .given .1, ← raw .ensures, ne-eqb (args .state) (raw .result) (c .before .if2 .left)) (c .row5 .ensures)
 
+returns-8 : tie.Need-returns-8
+returns-8 c = rw (c .before .enum-told2 .given .1) (c .row6 .ensures)
+
 pub next-spec : {M : Type 1} → statement M
 next-spec =
     tie.close
@@ -97,8 +106,11 @@ next-spec =
     state-number-requires-2
     returns-2
     row-requires-5
+    enum-told-2
+    row-requires-6
     returns-3
     returns-4
     returns-5
     returns-6
-    returns-7)
+    returns-7
+    returns-8)
