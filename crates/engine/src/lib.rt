@@ -1,4 +1,4 @@
-// The engine: the ten calls for other languages, and both pipelines with the promise that they agree.
+// The engine: the eleven calls for other languages, and both pipelines with the promise that they agree.
 ghost use Rattle.calls.specs.declared.Layout.the-variants.{Packed, Blocked};
 ghost use Rattle.calls.specs.declared.Conversion.the-variants.{PackedToRfp, RfpToPacked};
 ghost use Rattle.calls.specs.Calls as Calls;
@@ -7,6 +7,8 @@ ghost use Rattle.calls.specs.Variances as Variances;
 ghost use Rattle.calls.specs.Variances.{EvaluatedAs};
 ghost use Rattle.calls.specs.Conversions as Conversions;
 ghost use Rattle.calls.specs.Conversions.{ConvertedAs};
+ghost use Rattle.calls.specs.Strikes as Strikes;
+ghost use Rattle.calls.specs.Strikes.{StruckAs};
 
 mod pipelines;
 
@@ -134,4 +136,11 @@ pub extern "C" fn metsovary_rfp_to_packed(
     ensures { λ r. ⌜ ConvertedAs (Conversions.convert RfpToPacked form shape (now (source .entry)) (now (target .entry))) r (now (target .exit)) ⌝ }
 {
     convert::rfp_to_packed(shape, form, source, target)
+}
+
+#[no_mangle]
+pub extern "C" fn metsovary_strike(shape: Shape, list: &[usize], matrix: &mut [f64]) -> CallResult
+    ensures { λ r. ⌜ StruckAs (Strikes.strike shape (now (list .entry)) (now (matrix .entry))) r (now (matrix .exit)) ⌝ }
+{
+    strike::strike(shape, list, matrix)
 }

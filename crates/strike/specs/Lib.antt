@@ -1,0 +1,2 @@
+-- What the functions inside `strike` promise; the call itself is defined in `calls`.
+pub mod Rows
