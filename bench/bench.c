@@ -5,8 +5,9 @@
  *
  * measures the orders 500, 1,000 and 2,000 and each N, and prints a line for each subject: order, who, what with its block length and its number of right-hand
  * sides where it has them (solve_blocked_64_100), the least processor time of a call in seconds, and the core type. Variances are those of the first unknown
- * and of one in the middle (variance_blocked_middle_64); a converter and its peer have the number of the form (packed_to_rfp_1, dtpttf_1). LIBOPENBLAS is the path
- * of libopenblas.so.0. The calls that work by blocks are measured at block length 64, and at orders 1,000 and 2,000 at those of BLOCKS (16,32, or nothing) too. */
+ * and of one in the middle (variance_blocked_middle_64); a converter and its peer have the number of the form (packed_to_rfp_1, dtpttf_1); no unknown is struck,
+ * one, n/2, or every second (strike_none, strike_one, strike_half). LIBOPENBLAS is the path of libopenblas.so.0. The calls that work by blocks are measured at block
+ * length 64, and at orders 1,000 and 2,000 at those of BLOCKS (16,32, or nothing) too. */
 #define _GNU_SOURCE
 #include <emmintrin.h>
 #include <math.h>
@@ -80,6 +81,7 @@ static double *rfp[2];                                /* the matrix in rectangul
 static metsovary_shape matrix_shape, factor_shape, blocked_shape; /* what the engine is told that matrix and the two factors hold */
 static double *right_sides, *solutions, *x, *work;    /* MANY right-hand sides, their solutions by the engine; what a solver works on */
 static double first_variance, middle_variance;        /* of unknowns 0 and middle(), by the plain solver */
+static uint64_t one_unknown[1], odd_unknowns[MAX_ORDER / 2]; /* to strike: n/2, and every second */
 
 static metsovary_shape shape(uint64_t state) { return (metsovary_shape){(uint64_t)n, (uint64_t)block, state}; }
 static size_t block_work(void) { return (size_t)n * (size_t)(n < block ? n : block); }
@@ -136,6 +138,8 @@ static void make_operands(int order) {
     for (uint64_t form = 0; form < 2; form++)
         accept("packed_to_rfp", metsovary_packed_to_rfp(shape(METSOVARY_PACKED_RAW), form, original, length, rfp[form], length));
     first_variance = solved_variance(0), middle_variance = solved_variance(middle());
+    one_unknown[0] = (uint64_t)n / 2;
+    for (int k = 0; k < n / 2; k++) odd_unknowns[k] = 2 * (uint64_t)k + 1;
 }
 
 static void free_operands(void) {
@@ -304,6 +308,23 @@ static void dtpttf_1(void) { dtpttf(1); }
 static void dtfttp_0(void) { dtfttp(0); }
 static void dtfttp_1(void) { dtfttp(1); }
 
+static size_t packed_place(int order, int i, int j) { return (size_t)i + (size_t)j * (size_t)(2 * order - j - 1) / 2; }
+
+/* kept(k) is number k of the unknowns that are left. The last value of their middle column is compared. */
+static void strike(const uint64_t *list, int struck, int (*kept)(int)) {
+    matrix_shape = accept("strike", metsovary_strike(matrix_shape, list, (size_t)struck, matrix, length));
+    int left = (int)matrix_shape.order;
+    if (left > 0) agree("strike", matrix[packed_place(left, left - 1, left / 2)], original[packed_place(n, kept(left - 1), kept(left / 2))]);
+}
+
+static int kept_of_all(int k) { return k; }
+static int kept_but_one(int k) { return k < n / 2 ? k : k + 1; }
+static int kept_of_half(int k) { return 2 * k; }
+
+static void strike_none(void) { strike(NULL, 0, kept_of_all); }
+static void strike_one(void) { strike(one_unknown, 1, kept_but_one); }
+static void strike_half(void) { strike(odd_unknowns, n / 2, kept_of_half); }
+
 static void copy_matrix(void) { copy(matrix, original, length); }
 
 /* ---- subjects ---- */
@@ -334,6 +355,9 @@ static const subject always[] = {
     {"reference", "dtfttp_0", 0, 0, set_rfp_0, dtfttp_0},
     {"metsovary", "rfp_to_packed_1", 0, 0, set_rfp_1, rfp_to_packed_1},
     {"reference", "dtfttp_1", 0, 0, set_rfp_1, dtfttp_1},
+    {"metsovary", "strike_none", 0, 0, set_packed, strike_none},
+    {"metsovary", "strike_one", 0, 0, set_packed, strike_one},
+    {"metsovary", "strike_half", 0, 0, set_packed, strike_half},
     {"metsovary", "solve_plain", 0, 1, set_right_sides, solve_plain},
     {"metsovary", "solve_blocked", 64, 1, set_blocked_factor, solve_blocked},
     {"reference", "dpptrs", 0, 1, set_right_sides, dpptrs_of_reference},

@@ -1,8 +1,9 @@
 /* Metsovary: Cholesky factor and solution of symmetric positive definite systems of order up to 4,000 in binary64, and the variance of one unknown, packed or
- * by blocks, bit for bit the same on both ways; and LAPACK's rectangular full packed format (RFP), to and from. Link libengine.a (rt staticlib engine).
+ * by blocks, bit for bit the same on both ways; unknowns struck from a packed matrix; and LAPACK's rectangular full packed format (RFP), to and from. Link
+ * libengine.a (rt staticlib engine).
  *
- * A call examines its orders, lengths, states and values itself, refuses by the first rule that holds, in the order of the list below, and touches only the
- * memory that it is lent. The caller owes: pointers to as many values as the length says (any pointer where that is 0), memories that do not overlap, the
+ * A call examines its orders, lengths, states, lists and values itself, refuses by the first rule that holds, in the order of the codes below, and touches only
+ * the memory that it is lent. The caller owes: pointers to as many values as the length says (any pointer where that is 0), memories that do not overlap, the
  * processor's default rounding to nearest, and subnormal numbers that are not flushed to zero.
  *
  * Layouts of the lower triangle, entry (i, j), i >= j, counted from 0, n the order, b the block length:
@@ -27,7 +28,9 @@
  *   blocked variance      blocked factor  the same
  *   packed to RFP,        packed raw      the same
  *   RFP to packed         packed factor   the same
- * After 10, 11 and 16 the shape returned says spent, which no call takes; after every other refusal it is the shape that was handed in.
+ *   strike                packed raw      the same
+ * After 10, 11 and 16 the shape returned says spent, which no call takes; after every other refusal it is the shape that was handed in. No call changes the
+ * block length, and none but a strike that succeeds the order.
  *
  * code  meaning                                                               place
  *    0  success                                                               0
@@ -37,6 +40,8 @@
  *   15  the state does not suit the call                                      0
  *    3  the matrix is not exactly n(n + 1)/2 values                           0
  *       (a converter: source or target)
+ *   20  a strike: the list is not strictly rising, or names an unknown that   the first offending
+ *       is not below the order                                                position in the list
  *    4  the work memory is too short                                          0
  *   14  a variance: the unknown is not below the order                        0
  *    5  a solver: over 1,000 right-hand sides                                 0
@@ -53,10 +58,10 @@
  *   12  a solver or variance: a y or an x, of the forward or backward         the lowest such right-hand side;
  *       substitution, is not finite (a variance: of those that it forms)      a variance: 0
  *
- * Of 10, 16 and 11 the lowest refused column decides, and the list's order only within it. The value is +0 except under 10, where it may be minus infinity,
+ * Of 10, 16 and 11 the lowest refused column decides, and the order of codes only within it. The value is +0 except under 10, where it may be minus infinity,
  * under 16, and on success of a variance call. exact: a factor succeeds, and the square of each of its roots is the pivot exactly; so it is true of an accepted
- * order 0. It is false after every refusal, and from rearrangers, solvers, variance calls and converters, which take no root. After 1 to 9, 14, 15 and 17 all
- * memory is as it was. On success and after 10 to 12 and 16 the needed length of work memory is +0 and the rest as it was. */
+ * order 0. It is false after every refusal, and from rearrangers, solvers, variance calls, converters and strikes, which take no root. After 1 to 9, 14, 15, 17
+ * and 20 all memory is as it was. On success and after 10 to 12 and 16 the needed length of work memory is +0 and the rest as it was. */
 #ifndef METSOVARY_H
 #define METSOVARY_H
 
@@ -103,6 +108,12 @@ metsovary_result metsovary_variance_blocked(metsovary_shape, uint64_t unknown, c
  * block length is not judged. */
 metsovary_result metsovary_packed_to_rfp(metsovary_shape, uint64_t form, const double *source, size_t, double *target, size_t);
 metsovary_result metsovary_rfp_to_packed(metsovary_shape, uint64_t form, const double *source, size_t, double *target, size_t);
+
+/* Strike unknowns from a packed matrix in its own memory: count of them, numbers from 0, in a strictly rising list, which is only read. The entries of the others
+ * move to the front in packed order, and the rest of the memory becomes +0. The shape returned has the smaller order p = n - count; the next calls take the front
+ * part alone, of p(p + 1)/2 values, and its factor is that of a matrix typed in fresh without those unknowns. Values of every kind move with their bits kept. An
+ * empty list changes nothing; a list of all unknowns leaves order 0. No work memory; the block length is not judged. */
+metsovary_result metsovary_strike(metsovary_shape, const uint64_t *list, size_t count, double *matrix, size_t);
 
 #ifdef __cplusplus
 }

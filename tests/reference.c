@@ -23,7 +23,7 @@ size_t place(enum layout layout, metsovary_shape shape, size_t i, size_t j) {
 
 /* ---- states ---- */
 
-enum operation { REARRANGE, FACTOR, SOLVE, VARIANCE, CONVERT };
+enum operation { REARRANGE, FACTOR, SOLVE, VARIANCE, CONVERT, STRIKE };
 
 /* a call, by what it does and the layout that it wants, and the shape and the form that it is handed; the form is 0 where it takes none */
 typedef struct { enum operation operation; enum layout layout; metsovary_shape shape; uint64_t form; } task;
@@ -43,6 +43,7 @@ static const state_row state_rows[] = {
     {VARIANCE, BLOCKED, METSOVARY_BLOCKED_FACTOR, METSOVARY_BLOCKED_FACTOR},
     {CONVERT, PACKED, METSOVARY_PACKED_RAW, METSOVARY_PACKED_RAW},
     {CONVERT, PACKED, METSOVARY_PACKED_FACTOR, METSOVARY_PACKED_FACTOR},
+    {STRIKE, PACKED, METSOVARY_PACKED_RAW, METSOVARY_PACKED_RAW},
 };
 
 /* NULL where the state does not suit the call */
@@ -64,7 +65,7 @@ static metsovary_result answer(task t, uint64_t code, uint64_t where, double val
 }
 
 static size_t needed_work(task t) {
-    if (t.operation == CONVERT) return 0;
+    if (t.operation == CONVERT || t.operation == STRIKE) return 0;
     bool by_blocks = t.operation == REARRANGE || (t.operation == FACTOR && t.layout == BLOCKED);
     return by_blocks ? needed(t.shape.order, t.shape.block) : t.shape.order;
 }
@@ -145,6 +146,38 @@ metsovary_result reference_convert(enum way way, metsovary_shape shape, uint64_t
             else memcpy(&target[packed], &source[rfp], 8);
         }
     return answer(asked, 0, 0, 0.0);
+}
+
+/* ---- striking ---- */
+
+/* the lowest position of an unknown that is not below n or not above the one before it; the count where there is none */
+static size_t first_offending(uint64_t n, const uint64_t *unknowns, size_t count) {
+    size_t p = 0;
+    while (p < count && unknowns[p] < n && (p == 0 || unknowns[p] > unknowns[p - 1])) p++;
+    return p;
+}
+
+/* Entry by entry into fresh memory of zeros, then back as a whole. */
+metsovary_result reference_strike(metsovary_shape shape, const uint64_t *unknowns, size_t count, double *matrix, size_t length) {
+    task asked = {STRIKE, PACKED, shape, 0};
+    uint64_t code = check_call(asked, length, 0);
+    if (code) return answer(asked, code, 0, 0.0);
+    size_t bad = first_offending(shape.order, unknowns, count);
+    if (bad < count) return answer(asked, 20, bad, 0.0);
+    metsovary_result r = answer(asked, 0, 0, 0.0);
+    r.shape.order = shape.order - count;
+    size_t *kept = malloc((r.shape.order + 1) * sizeof *kept), next = 0;
+    for (size_t u = 0; u < shape.order; u++) {
+        if (next < count && unknowns[next] == u) next++;
+        else kept[u - next] = u;
+    }
+    uint64_t *fresh = calloc(length + 1, 8);
+    for (size_t j = 0; j < r.shape.order; j++)
+        for (size_t i = j; i < r.shape.order; i++) memcpy(&fresh[place(PACKED, r.shape, i, j)], &matrix[place(PACKED, shape, kept[i], kept[j])], 8);
+    memcpy(matrix, fresh, length * 8);
+    free(fresh);
+    free(kept);
+    return r;
 }
 
 /* ---- the arithmetic, on a full square array by columns ---- */
@@ -301,6 +334,27 @@ void memory_free(memory m) { free(m.all); }
 bool memory_same(memory a, memory b) {
     return a.length == b.length && memcmp(a.all, b.all, (a.length + 2 * GUARD) * sizeof *a.all) == 0;
 }
+
+/* Each guard is a low number: a call that took one for part of the list would strike that unknown or refuse the list. */
+list list_new(size_t count) {
+    list l;
+    l.all = calloc(count + 2 * GUARD, sizeof *l.all);
+    if (!l.all) abort();
+    l.unknowns = l.all + GUARD;
+    l.count = count;
+    for (size_t k = 0; k < GUARD; k++) l.all[k] = l.unknowns[count + k] = k;
+    return l;
+}
+
+list list_copy(list l) {
+    list c = list_new(l.count);
+    memcpy(c.all, l.all, (l.count + 2 * GUARD) * sizeof *l.all);
+    return c;
+}
+
+void list_free(list l) { free(l.all); }
+
+bool list_same(list a, list b) { return a.count == b.count && memcmp(a.all, b.all, (a.count + 2 * GUARD) * sizeof *a.all) == 0; }
 
 /* ---- numbers ---- */
 
@@ -461,5 +515,16 @@ metsovary_result compare_convert(enum way way, metsovary_shape shape, uint64_t f
     compared(way == PACKED_TO_RFP ? "packed_to_rfp" : "rfp_to_packed", shape, got, wanted, memory_same(s, source) && memory_same(t, target));
     memory_free(s);
     memory_free(t);
+    return got;
+}
+
+metsovary_result compare_strike(metsovary_shape shape, list struck, memory matrix) {
+    memory a = memory_copy(matrix);
+    list l = list_copy(struck);
+    metsovary_result wanted = reference_strike(shape, l.unknowns, l.count, a.values, a.length);
+    metsovary_result got = metsovary_strike(shape, struck.unknowns, struck.count, matrix.values, matrix.length);
+    compared("strike", shape, got, wanted, memory_same(a, matrix) && list_same(l, struck));
+    memory_free(a);
+    list_free(l);
     return got;
 }

@@ -1,4 +1,4 @@
-/* Another implementation of the ten calls, by the formulas of documents 01 and 02 and naive loops, with the processor's square root; and guarded memory to compare all of it. */
+/* Another implementation of the eleven calls, by the formulas of documents 01 and 02 and naive loops, with the processor's square root; and guarded memory to compare all of it. */
 #ifndef REFERENCE_H
 #define REFERENCE_H
 
@@ -22,6 +22,7 @@ metsovary_result reference_factor(enum layout, metsovary_shape, double *matrix, 
 metsovary_result reference_solve(enum layout, metsovary_shape, uint64_t m, const double *matrix, size_t, double *x, size_t, double *work, size_t);
 metsovary_result reference_variance(enum layout, metsovary_shape, uint64_t unknown, const double *matrix, size_t, double *work, size_t);
 metsovary_result reference_convert(enum way, metsovary_shape, uint64_t form, const double *source, size_t, double *target, size_t);
+metsovary_result reference_strike(metsovary_shape, const uint64_t *unknowns, size_t count, double *matrix, size_t);
 
 /* ---- memory with guards on both sides ---- */
 
@@ -31,6 +32,14 @@ memory memory_new(size_t length);
 memory memory_copy(memory);
 void memory_free(memory);
 bool memory_same(memory, memory);   /* every bit, guards included */
+
+/* unknowns to strike */
+typedef struct { uint64_t *all, *unknowns; size_t count; } list;
+
+list list_new(size_t count);
+list list_copy(list);
+void list_free(list);
+bool list_same(list, list);
 
 /* ---- numbers ---- */
 
@@ -59,5 +68,6 @@ metsovary_result compare_factor(enum layout, metsovary_shape, memory matrix, mem
 metsovary_result compare_solve(enum layout, metsovary_shape, uint64_t m, memory matrix, memory x, memory work);
 metsovary_result compare_variance(enum layout, metsovary_shape, uint64_t unknown, memory matrix, memory work);
 metsovary_result compare_convert(enum way, metsovary_shape, uint64_t form, memory source, memory target);
+metsovary_result compare_strike(metsovary_shape, list, memory matrix);
 
 #endif
