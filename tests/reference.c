@@ -166,16 +166,17 @@ metsovary_result reference_strike(metsovary_shape shape, const uint64_t *unknown
     if (bad < count) return answer(asked, 20, bad, 0.0);
     metsovary_result r = answer(asked, 0, 0, 0.0);
     r.shape.order = shape.order - count;
-    size_t *kept = malloc((r.shape.order + 1) * sizeof *kept), next = 0;
-    for (size_t u = 0; u < shape.order; u++) {
-        if (next < count && unknowns[next] == u) next++;
-        else kept[u - next] = u;
-    }
+    bool *struck = calloc(shape.order + 1, sizeof *struck);
+    for (size_t q = 0; q < count; q++) struck[unknowns[q]] = true;
+    size_t *kept = malloc((shape.order + 1) * sizeof *kept), left = 0;
+    for (size_t u = 0; u < shape.order; u++)
+        if (!struck[u]) kept[left++] = u;
     uint64_t *fresh = calloc(length + 1, 8);
     for (size_t j = 0; j < r.shape.order; j++)
         for (size_t i = j; i < r.shape.order; i++) memcpy(&fresh[place(PACKED, r.shape, i, j)], &matrix[place(PACKED, shape, kept[i], kept[j])], 8);
     memcpy(matrix, fresh, length * 8);
     free(fresh);
+    free(struck);
     free(kept);
     return r;
 }

@@ -87,6 +87,7 @@ unfoldable pub rule3 : ℕ → ℕ → Verdict
 rule3 n matrixLength = refuseIf (not (eqb matrixLength (triangle n))) (refusal 3 0 zero64)
 
 -- 20. The list is not strictly rising or names an unknown not below n (place: first offending position in the list).
+-- The unknown at position p is below n and above the one before it.
 unfoldable pub risesAt : ℕ → List ℕ → ℕ → Bool
 risesAt n list zero = ltb (getD list 0 0) n
 risesAt n list (suc p) = ltb (getD list (suc p) 0) n && ltb (getD list p 0) (getD list (suc p) 0)

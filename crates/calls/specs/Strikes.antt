@@ -55,14 +55,17 @@ pub record StruckAs (d : Struck) (r : CallResult) (matrix′ : List Float) : Typ
   pub result : r ≡ d .result
   pub matrix : matrix′ ≡ d .matrix
 
+-- the shape with another order
+abbrev pub smaller : Shape → ℕ → Shape
+smaller shape p = record { order = p; block = shape .block; state = shape .state }
+
 unfoldable pub strike : Shape → List ℕ → List Float → Struck
 strike shape list matrix =
     let n = shape .order in
     let unknowns = kept list n in
-    let smaller : Shape = record { order = length unknowns; block = shape .block; state = shape .state } in
     let checks = strikeChecks shape list (length matrix) in
     cond (accepted checks)
-    (record { result = resultOf Strike smaller success; matrix = struck unknowns n matrix })
+    (record { result = resultOf Strike (smaller shape (length unknowns)) success; matrix = struck unknowns n matrix })
     (record { result = resultOf Strike shape checks; matrix = matrix })
 
 -- ---- what is proved of it
@@ -80,8 +83,7 @@ abbrev pub OrderFalls : Type 0
 OrderFalls =
     (shape : Shape) (list : List ℕ) (matrix : List Float) →
     let r = strike shape list matrix .result in
-    let smaller : Shape = record { order = shape .order - length list; block = shape .block; state = shape .state } in
-    r .shape ≡ cond (succeeded r) smaller shape
+    r .shape ≡ cond (succeeded r) (smaller shape (shape .order - length list)) shape
 
 -- An empty list changes nothing.
 abbrev pub EmptyChangesNothing : Type 0

@@ -14,8 +14,8 @@ use Rattle.calls.specs.declared.Verdict.{Verdict}
 use Rattle.calls.specs.declared.Call.the-variants.{Strike}
 use Rattle.calls.specs.Refusals.{accepted}
 use Rattle.calls.specs.Calls.{resultOf}
-use Rattle.calls.specs.Strikes.{kept, struck, Fresh, strikeChecks, StruckAs, strike}
-use Rattle.strike.proofs.Strikes.{kept-remain, kept-below, length-kept, front-entries, StrikeAccepted, strike-accepted, strike-passes, smaller, strike-refused, strike-passed}
+use Rattle.calls.specs.Strikes.{kept, struck, Fresh, strikeChecks, StruckAs, smaller, strike}
+use Rattle.strike.proofs.Strikes.{kept-remain, kept-below, length-kept, front-entries, StrikeAccepted, strike-accepted, strike-passes, strike-refused, strike-passed}
 use Rattle.strike.specs.Rows.{Unknowns}
 
 pub kept-unknowns : (list : List ℕ) (n : ℕ) → Unknowns n (kept list n)

@@ -30,7 +30,7 @@ use Rattle.calls.specs.States.{lookUp, next, suits}
 use Rattle.calls.specs.Refusals.{success, accepted}
 use Rattle.calls.specs.Calls.{resultOf, succeeded, factorize}
 use Rattle.calls.specs.Pipelines.{packedRaw, plainPipeline, blockedPipeline}
-use Rattle.calls.specs.Strikes.{kept, principal, front, struck, strikeChecks, Struck, strike, OrderFalls, EmptyChangesNothing, AllLeavesZeros, Fresh, StruckIsFresh, union, StrikesUnion, MovesForward, onePass, OnePassSuffices}
+use Rattle.calls.specs.Strikes.{kept, principal, front, struck, strikeChecks, Struck, smaller, strike, OrderFalls, EmptyChangesNothing, AllLeavesZeros, Fresh, StruckIsFresh, union, StrikesUnion, MovesForward, onePass, OnePassSuffices}
 use Rattle.calls.proofs.Sequences.{iterate-alike}
 use Rattle.strike.proofs.Selections.{contains-at, contains-absent, Found, contains-found, passing-member, rising-unique, passing-rising, contains-passing, getD-map-at, map-rising, contains-map}
 use Rattle.calls.proofs.Writes.{writes, writes-other}
@@ -38,7 +38,7 @@ use Rattle.calls.proofs.Triangles.{stored-apart, Shaped, stored, length-store}
 use Rattle.calls.proofs.Refusals.{cond-both}
 use Rattle.calls.proofs.CheckLaws.{Keeps}
 use Rattle.calls.proofs.StateLaws.{given-same, shape-same}
-use Rattle.strike.proofs.Strikes.{kept-remain, kept-below, kept-at-most, rising-forward, Listed, length-kept, kept-at, shaped-principal, kept-entry, length-front, entry-kept, entry-written, entry-front, front-entries, StrikeAccepted, strike-accepted, strike-keeps, smaller, strike-refused, strike-passed, strike-succeeded}
+use Rattle.strike.proofs.Strikes.{kept-remain, kept-below, kept-at-most, rising-forward, Listed, length-kept, kept-at, shaped-principal, kept-entry, length-front, entry-kept, entry-written, entry-front, front-entries, StrikeAccepted, strike-accepted, strike-keeps, strike-refused, strike-passed, strike-succeeded}
 
 -- ---- what a strike returns and leaves
 

@@ -26,7 +26,7 @@ use Rattle.calls.specs.Triangles.{Triangle, entry, height, load, store}
 use Rattle.calls.specs.States.{next, suits}
 use Rattle.calls.specs.Refusals.{success, accepted, refusal, refuseIf, firstRefusal, rule2, rule4, risesAt, rule20}
 use Rattle.calls.specs.Calls.{resultOf, succeeded}
-use Rattle.calls.specs.Strikes.{kept, principal, front, struck, strikeChecks, Struck, strike, Remaining, Fresh}
+use Rattle.calls.specs.Strikes.{kept, principal, front, struck, strikeChecks, Struck, smaller, strike, KeptRemain, Fresh}
 use Rattle.calls.proofs.Sequences.{length-tabulate, getD-tabulate}
 use Rattle.strike.proofs.Selections.{contains-at, contains-absent, length-pass, length-fail, passing-at, passing-member, rising-at, rising-length, passing-rising, contains-passing}
 use Rattle.calls.proofs.Triangles.{Shaped, entry-load, length-store, store-same, memory-ext}
@@ -98,7 +98,7 @@ module _ (n : ℕ) (list : List ℕ) where
 abbrev left : List ℕ → ℕ → Bool
 left list u = not (contains list u)
 
-pub kept-remain : (list : List ℕ) (n : ℕ) → Remaining list n (kept list n)
+pub kept-remain : KeptRemain
 unfolding kept
 kept-remain list n = record { rising = passing-rising (left list) n; members = contains-passing (left list) n }
 
@@ -333,10 +333,6 @@ module _ (shape : Shape) (list : List ℕ) (ml : ℕ) where
       (none-holds Keeps refl)))
 
 -- ---- the call after its checks
-
--- the shape that is returned on success
-abbrev pub smaller : Shape → ℕ → Shape
-smaller shape p = record { order = p; block = shape .block; state = shape .state }
 
 module _ (shape : Shape) (list : List ℕ) (matrix : List Float) where
   abbrev checks : Verdict
