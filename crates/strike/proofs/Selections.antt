@@ -1,4 +1,4 @@
--- Laws of `contains` and `passing`, specs/Sequences.antt: where a number stands in a list, the numbers that pass a test and their positions, and that a rising
+-- Laws of `contains` and `passing`, specs/Sequences.antt of `calls`: where a number stands in a list, the numbers that pass a test and their positions, and that a rising
 -- list is told by its members. Assumes nothing.
 use Prim.Native.Nat.{ℕ, zero, suc, _+_, _≤_, _<_}
 use native.Mathlib.Nat.{add-zero, add-suc}

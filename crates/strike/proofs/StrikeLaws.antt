@@ -1,4 +1,4 @@
--- The laws that specs/Strikes.antt states: what a strike returns and leaves, by its list, and that one pass in rising place makes its front part; that the
+-- The laws that specs/Strikes.antt of `calls` states: what a strike returns and leaves, by its list, and that one pass in rising place makes its front part; that the
 -- unknowns kept remain is in Strikes.antt. Assumes nothing.
 use Prim.Native.Nat.{ℕ, _+_, _-_, _≤_, _<_}
 use native.Mathlib.Nat.{add-zero, sub-zero}

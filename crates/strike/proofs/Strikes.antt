@@ -1,5 +1,5 @@
--- Laws of striking unknowns, specs/Strikes.antt: what rule 20 says of a list, where the unknowns kept stand between those struck, the entries of the front
--- part, and the laws stated there. Assumes nothing.
+-- Laws of striking unknowns, specs/Strikes.antt of `calls`: what rule 20 says of a list, where the unknowns kept stand between those struck, the entries of the
+-- front part, and what the call gives after its checks. The laws stated there are in StrikeLaws.antt. Assumes nothing.
 use Prim.Native.Nat.{ℕ, zero, suc, _+_, _-_, _≤_, _<_}
 use native.Mathlib.Numerals.{add-one}
 use native.Mathlib.Omega.{arith}
