@@ -66,9 +66,6 @@ module _ (n : ℕ) (unknowns : List ℕ) (u : Unknowns n unknowns) where
   -- ---- column c
 
   module _ (c base to : ℕ) (inside : c < p) (first : base + getD unknowns c 0 ≡ source c c) (start : to ≡ blockStart p c) where
-    diagonal : Entry p c c
-    diagonal = record { lower = omega arith; inside = inside }
-
     at-row : (i : ℕ) → Entry p i c → base + getD unknowns i 0 ≡ source i c
     at-row i e =
         omega (arith, first, packed-place-rows n (getD unknowns c 0) (getD unknowns i 0) (getD unknowns c 0) (entry-of i c e .lower), entry-of i c e .lower)
