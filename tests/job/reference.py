@@ -1,4 +1,5 @@
-"""Another implementation of document 01's job format and listing: naive loops on Python's binary64 floats."""
+"""Another implementation of document 01's job format and listing and of request (i)'s rewriting: naive loops, on the patterns of values in a job's bytes and on
+Python's binary64 floats in the arithmetic."""
 import math
 import struct
 
@@ -7,49 +8,69 @@ def bits(x):
     return struct.unpack("<Q", struct.pack("<d", x))[0]
 
 
-def make(n, b, m, matrix, rhs):
-    """The bytes of a job; a +0 entry has no bit."""
+def value(pattern):
+    return struct.unpack("<d", struct.pack("<Q", pattern))[0]
+
+
+def encode(n, b, m, matrix, rhs, needless=()):
+    """The bytes of a job from its values' patterns; a +0 entry has a bit only where its position is in needless."""
     present, values = 0, b""
     for p, v in enumerate(matrix):
-        if bits(v):
+        if v or p in needless:
             present |= 1 << p
-            values += struct.pack("<d", v)
+            values += v.to_bytes(8, "little")
     size = (n * (n + 1) // 2 + 7) // 8
-    return struct.pack("<HHB", n, b, m) + present.to_bytes(size, "little") + values + b"".join(struct.pack("<d", v) for v in rhs)
+    return struct.pack("<HHB", n, b, m) + present.to_bytes(size, "little") + values + b"".join(v.to_bytes(8, "little") for v in rhs)
+
+
+def make(n, b, m, matrix, rhs, needless=()):
+    """The bytes of a job from its values."""
+    return encode(n, b, m, list(map(bits, matrix)), list(map(bits, rhs)), needless)
 
 
 class Fault(Exception):
-    pass
+    """Code and place."""
 
 
-def read(data):
+def read(data, needless=False):
+    """Order, block length, count, and the patterns of the packed entries and of the right sides. With needless, bits may stand over +0, as before request (i)."""
     at = 0
 
-    def take(width):
+    def number(width):
         nonlocal at
         if at + width > len(data):
-            raise Fault(len(data))
+            raise Fault(13, len(data))
         at += width
-        return data[at - width:at]
+        return int.from_bytes(data[at - width:at], "little")
 
-    n = int.from_bytes(take(2), "little")
+    n = number(2)
     if n > 64:
-        raise Fault(0)
-    b = int.from_bytes(take(2), "little")
+        raise Fault(13, 0)
+    b = number(2)
     if not 1 <= b <= 200:
-        raise Fault(2)
-    m = take(1)[0]
+        raise Fault(13, 2)
+    m = number(1)
     if m > 16:
-        raise Fault(4)
+        raise Fault(13, 4)
     count = n * (n + 1) // 2
-    present = int.from_bytes(take((count + 7) // 8), "little")
+    present = number((count + 7) // 8)
     if present >> count:
-        raise Fault(at - 1)
-    matrix = [struct.unpack("<d", take(8))[0] if present >> p & 1 else 0.0 for p in range(count)]
-    rhs = [struct.unpack("<d", take(8))[0] for _ in range(n * m)]
+        raise Fault(13, at - 1)
+    matrix = [0] * count
+    for p in range(count):
+        if present >> p & 1:
+            matrix[p] = number(8)
+            if matrix[p] == 0 and not needless:
+                raise Fault(18, at - 8)
+    rhs = [number(8) for _ in range(n * m)]
     if at != len(data):
-        raise Fault(at)
+        raise Fault(13, at)
     return n, b, m, matrix, rhs
+
+
+def rewrite(data):
+    """The bytes of a stored job without the bits over +0."""
+    return encode(*read(data, needless=True))
 
 
 def solve(n, m, matrix, rhs):
@@ -97,10 +118,10 @@ def solve(n, m, matrix, rhs):
 def listing(data):
     try:
         n, b, m, matrix, rhs = read(data)
+        code, place, factor, x = solve(n, m, list(map(value, matrix)), list(map(value, rhs)))
     except Fault as fault:
-        return f"END 13 {fault.args[0]}\n"
-    code, place, factor, x = solve(n, m, matrix, rhs)
-    lines = [f"JOB {n} {b} {m}"]
+        code, place = fault.args
+    lines = [] if code == 13 else ["JOB {} {} {}".format(*struct.unpack("<HHB", data[:5]))]
     if code == 0:
         lines += [f"F {bits(v):016X}" for v in factor] + [f"X {bits(v):016X}" for v in x]
     return "\n".join(lines + [f"END {code} {place}"]) + "\n"

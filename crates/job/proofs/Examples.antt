@@ -1,12 +1,12 @@
 -- Jobs and their listings as one table, covered by one proposition. Files stand as bytes and values as bit patterns. Assumes nothing.
-use Prim.Native.Nat.{ℕ, zero, suc, _/_, _%_}
+use Prim.Native.Nat.{ℕ}
 use Prim.Native.String as String
 use Prim.Native.String.{String}
 use Prim.Native.Char.{code}
 use mathlib.Core.Bool.{Bool, true, false, _&&_}
 use mathlib.Core.List.{List, [], _∷_, _++_}
-use lib.Dec.{T, eqb}
-use lib.ListN.{take}
+use lib.Dec.{T}
+use lib.ListN.{take, replicate}
 use lib.Ieee.{ofBits, toBits, mul, sub, div, lt}
 use Rattle.binary64.specs.Kinds.{kind, finite, positive}
 use Rattle.binary64.specs.Root.{root}
@@ -19,33 +19,15 @@ use Rattle.calls.specs.States.{lookUp}
 use Rattle.calls.specs.Refusals.{firstRefusal, lowestRefusal, rule1, rule2, rule15, rule3, rule4, rule5, rule6, finiteRule, rule9, rule11, weak, rule16, columnRules, columnVerdict, rule12}
 use Rattle.calls.specs.Calls.{stateAfter, rearrange, rearrangerChecks, moved, factorize, factorChecks, factored, columnsVerdict, solve, solverChecks, solved, rhsVerdict, rhsPart, solution, solutions, clear}
 use Rattle.calls.specs.Pipelines.{blockedPipeline}
-use Rattle.job.specs.Reading.{littleEndian, field, bounded, value, values}
-use Rattle.job.specs.Format.{readSizes, mapBytes, mapBit, padded, readMap, readValues, readJob}
-use Rattle.job.specs.Listing.{digits, decimal, hexDigit, hexadecimal, jobLine, valueLine, valueLines, endLine, jobEnded, jobVerdict, solutionLines, resultLines, listingOf, listing}
+use Rattle.job_format.specs.Reading.{littleEndian, field, bounded, needless, value, values}
+use Rattle.job_format.specs.Format.{readSizes, mapBytes, mapBit, padded, readMap, readValues, readContents}
+use Rattle.job_format.specs.Rewriting.{bytesOf}
+use Rattle.job_format.proofs.Examples.{words, file, same}
+use Rattle.job.specs.Listing.{digits, decimal, hexDigit, hexadecimal, jobLine, valueLine, valueLines, endLine, jobEnded, jobVerdict, solutionLines, resultLines, faultLines, listingOf, listing}
 
 codes : String → List ℕ
 codes String.[] = []
 codes (String._∷_ c s) = code c ∷ codes s
-
-same : List ℕ → List ℕ → Bool
-same [] [] = true
-same [] (y ∷ ys) = false
-same (x ∷ xs) [] = false
-same (x ∷ xs) (y ∷ ys) = eqb x y && same xs ys
-
--- width bytes of a number, least byte first, and 8 of each pattern
-bytes : ℕ → ℕ → List ℕ
-bytes zero x = []
-bytes (suc k) x = x % 256 ∷ bytes k (x / 256)
-
-words : List ℕ → List ℕ
-unfolding bytes
-words [] = []
-words (p ∷ ps) = bytes 8 p ++ words ps
-
-file : ℕ → ℕ → ℕ → List ℕ → List ℕ → List ℕ
-unfolding bytes words
-file n b m map patterns = bytes 2 n ++ bytes 2 b ++ (m ∷ []) ++ map ++ words patterns
 
 lists : List ℕ → String → Bool
 unfolding codes same listing listingOf
@@ -100,10 +82,23 @@ table =
     row (file 3 0 17 [] []) "END 13 2\n" ∷
     row (file 3 201 1 [] []) "END 13 2\n" ∷
     row (file 3 200 17 [] []) "END 13 4\n" ∷
+    -- 18: a bit over +0, the first of two, the first of order 20 (orders to 64 are in tests/job); before a file that ends early or late, before 7 and 8; after a fault under 13
+    row (file 2 1 1 (0x06 ∷ []) (0x3ff0_0000_0000_0000 ∷ 0 ∷ 0 ∷ 0 ∷ [])) "JOB 2 1 1\nEND 18 14\n" ∷
+    row (file 2 1 0 (0x07 ∷ []) (0 ∷ 0x3ff0_0000_0000_0000 ∷ 0 ∷ [])) "JOB 2 1 0\nEND 18 6\n" ∷
+    row (file 20 200 16 (0x01 ∷ replicate 26 0) (0 ∷ [])) "JOB 20 200 16\nEND 18 32\n" ∷
+    row (file 2 1 0 (0x07 ∷ []) (0x3ff0_0000_0000_0000 ∷ 0 ∷ [])) "JOB 2 1 0\nEND 18 14\n" ∷
+    row (file 1 3 0 (0x01 ∷ []) (0 ∷ 0 ∷ [])) "JOB 1 3 0\nEND 18 6\n" ∷
+    row (file 2 1 1 (0x03 ∷ []) (0x7ff0_0000_0000_0000 ∷ 0 ∷ 0x7ff8_0000_0000_0000 ∷ 0 ∷ [])) "JOB 2 1 1\nEND 18 14\n" ∷
+    row (take 13 (file 1 1 0 (0x01 ∷ []) (0 ∷ []))) "END 13 13\n" ∷
+    row (file 1 1 17 (0x01 ∷ []) (0 ∷ [])) "END 13 4\n" ∷
+    row (file 1 1 0 (0x03 ∷ []) (0 ∷ 0 ∷ [])) "END 13 5\n" ∷
+    -- −0 needs its bit, a subnormal has one, and a right side may be +0
+    row (file 1 1 0 (0x01 ∷ []) (0x8000_0000_0000_0000 ∷ [])) "JOB 1 1 0\nEND 10 0\n" ∷
+    row (file 1 1 1 (0x01 ∷ []) (0x0000_0000_0000_0001 ∷ 0 ∷ [])) "JOB 1 1 1\nF 1E60000000000000\nX 0000000000000000\nEND 0 0\n" ∷
     -- 7 and 8: an infinity at packed place 2, which is place 3 in blocked order; at the last packed entry; a NaN among the right-hand sides; 7 before 8
     row (file 3 2 0 (0x05 ∷ []) (0x3ff0_0000_0000_0000 ∷ 0x7ff0_0000_0000_0000 ∷ [])) "JOB 3 2 0\nEND 7 2\n" ∷
     row (file 2 1 1 (0x06 ∷ []) (0x3ff0_0000_0000_0000 ∷ 0x7ff0_0000_0000_0000 ∷ 0 ∷ 0 ∷ [])) "JOB 2 1 1\nEND 7 2\n" ∷
-    row (file 2 1 1 (0x06 ∷ []) (0x3ff0_0000_0000_0000 ∷ 0 ∷ 0 ∷ 0xfff8_0000_0000_0001 ∷ [])) "JOB 2 1 1\nEND 8 1\n" ∷
+    row (file 2 1 1 (0x06 ∷ []) (0x3ff0_0000_0000_0000 ∷ 0x3ff0_0000_0000_0000 ∷ 0 ∷ 0xfff8_0000_0000_0001 ∷ [])) "JOB 2 1 1\nEND 8 1\n" ∷
     row (file 1 1 1 (0x01 ∷ []) (0x7ff8_0000_0000_0000 ∷ 0x7ff0_0000_0000_0000 ∷ [])) "JOB 1 1 1\nEND 7 0\n" ∷
     -- 10, 11, 12 and 16: packed 1, 1, 1; packed 2^−1000, 2^600, 1; factor 2^−500, right-hand side 2^600; packed 1, 1, 1 + 2^−52
     row (file 2 200 0 (0x07 ∷ []) (0x3ff0_0000_0000_0000 ∷ 0x3ff0_0000_0000_0000 ∷ 0x3ff0_0000_0000_0000 ∷ [])) "JOB 2 200 0\nEND 10 1\n" ∷
@@ -113,5 +108,5 @@ table =
     []
 
 examples : T (allListed table)
-unfolding allListed table row lists job littleEndian field bounded value values readSizes mapBytes mapBit padded readMap readValues readJob digits decimal hexDigit hexadecimal jobLine valueLine valueLines endLine jobEnded jobVerdict solutionLines resultLines blockedPipeline rearrange rearrangerChecks moved factorize factorChecks factored columnsVerdict solve solverChecks solved rhsVerdict rhsPart solution solutions clear firstRefusal lowestRefusal stateAfter lookUp rule1 rule2 rule15 rule3 rule4 rule5 rule6 finiteRule rule9 rule11 weak rule16 columnRules columnVerdict rule12 minusProducts pivot quotient below factorColumn cholesky forward backwardRows backward iterate grow tabulate all entry height placeOf load storeColumn store kind finite positive root judged triangle packedPlace blockedPlace blockWork toBits ofBits mul sub div lt
+unfolding allListed table row lists job words file same bytesOf littleEndian field bounded needless value values readSizes mapBytes mapBit padded readMap readValues readContents digits decimal hexDigit hexadecimal jobLine valueLine valueLines endLine jobEnded jobVerdict solutionLines faultLines resultLines blockedPipeline rearrange rearrangerChecks moved factorize factorChecks factored columnsVerdict solve solverChecks solved rhsVerdict rhsPart solution solutions clear firstRefusal lowestRefusal stateAfter lookUp rule1 rule2 rule15 rule3 rule4 rule5 rule6 finiteRule rule9 rule11 weak rule16 columnRules columnVerdict rule12 minusProducts pivot quotient below factorColumn cholesky forward backwardRows backward iterate grow tabulate all entry height placeOf load storeColumn store kind finite positive root judged triangle packedPlace blockedPlace blockWork toBits ofBits mul sub div lt
 examples = tt

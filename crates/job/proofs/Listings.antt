@@ -26,52 +26,16 @@ use Rattle.calls.specs.Pipelines.{Ended, packedRaw, endedBy, blockedPipeline}
 use Rattle.calls.proofs.Refusals.{cond-both}
 use Rattle.calls.proofs.Judging.{lowest-all}
 use Rattle.calls.proofs.CheckLaws.{refuse-accepted, solver-success as checks-success}
-use Rattle.job.specs.declared.Sizes.{Sizes}
-use Rattle.job.specs.Reading.{Parsed, fault, found, andThen, require, field, bounded}
-use Rattle.job.specs.Format.{Job, InBounds, readSizes, readMap, readValues, readJob}
-use Rattle.job.specs.Listing.{digits, decimal, jobLine, endLine, solutionLines, resultLines, jobEnded, jobVerdict, listingOf, listed, listing, listingIn, JobSolved}
-use Rattle.job.proofs.Texts.{length-decimal, length-jobLine, length-endLine, length-solutionLines, refused-lines, accepted-lines}
-
--- ---- the bounds of what was read
-
-bounded-found : (file : List ℕ) (at width low high v next : ℕ) → bounded file at width low high ≡ found v next → (low ≤ v) × (v ≤ high)
-unfolding bounded
-bounded-found file at width low high v next e = go (field file at width) e
-  where
-    in-range : (x y : ℕ) (a b : Bool) → leb low x ≡ a → leb x high ≡ b → require (a && b) at (found x y) ≡ found v next → (low ≤ v) × (v ≤ high)
-    in-range x y true true p q f = let s : x ≡ v = cc in (omega (arith, leb-true low x p), omega (arith, leb-true x high q))
-    in-range x y true false p q f = let z : _≡_ {A = ℕ} 0 1 = cc in absurd (omega arith)
-    in-range x y false b p q f = let z : _≡_ {A = ℕ} 0 1 = cc in absurd (omega arith)
-
-    go : (p : Parsed ℕ) → andThen p (λ x y. require (leb low x && leb x high) at (found x y)) ≡ found v next → (low ≤ v) × (v ≤ high)
-    go (fault q) f = let z : _≡_ {A = ℕ} 0 1 = cc in absurd (omega arith)
-    go (found x y) f = in-range x y (leb low x) (leb x high) refl refl f
-
-pub sizes-bounds : (file : List ℕ) (sizes : Sizes) (at : ℕ) → readSizes file ≡ found sizes at → InBounds sizes
-unfolding readSizes
-sizes-bounds file sizes at e = go1 (bounded file 0 2 0 64) refl e
-  where
-    go3 :
-        (n b : ℕ) → n ≤ 64 → 1 ≤ b → b ≤ 200 → (next : ℕ) (p : Parsed ℕ) → bounded file next 1 0 16 ≡ p →
-        andThen p (λ m at. found (record { order = n; block = b; count = m }) at) ≡ found sizes at → InBounds sizes
-    go3 n b h l k next (fault q) e f = let z : _≡_ {A = ℕ} 0 1 = cc in absurd (omega arith)
-    go3 n b h l k next (found m y) e f =
-        let s : record { order = n; block = b; count = m } ≡ sizes = cc in
-        subst InBounds s (record { order = h; blockLow = l; blockHigh = k; count = bounded-found file next 1 0 16 m y e .1 })
-
-    go2 :
-        (n : ℕ) → n ≤ 64 → (next : ℕ) (p : Parsed ℕ) → bounded file next 2 1 200 ≡ p →
-        andThen p (λ b at. andThen (bounded file at 1 0 16) (λ m at. found (record { order = n; block = b; count = m }) at)) ≡ found sizes at → InBounds sizes
-    go2 n h next (fault q) e f = let z : _≡_ {A = ℕ} 0 1 = cc in absurd (omega arith)
-    go2 n h next (found b y) e f =
-        let r = bounded-found file next 2 1 200 b y e in go3 n b h (r .0) (r .1) y (bounded file y 1 0 16) refl f
-
-    go1 :
-        (p : Parsed ℕ) → bounded file 0 2 0 64 ≡ p →
-        andThen p (λ n at. andThen (bounded file at 2 1 200) (λ b at. andThen (bounded file at 1 0 16) (λ m at. found (record { order = n; block = b; count = m }) at))) ≡ found sizes at →
-        InBounds sizes
-    go1 (fault q) e f = let z : _≡_ {A = ℕ} 0 1 = cc in absurd (omega arith)
-    go1 (found n y) e f = go2 n (bounded-found file 0 2 0 64 n y e .1) y (bounded file y 2 1 200) refl f
+use Rattle.job_format.specs.declared.Sizes.{Sizes}
+use Rattle.job_format.specs.Reading.{Parsed, fault, found, andThen}
+use Rattle.job_format.specs.declared.Fault.{Fault}
+use Rattle.job_format.specs.declared.Zeros.the-variants.{Needless}
+use Rattle.job_format.specs.Format.{Contents, InBounds, readSizes, readContents, readJob}
+use Rattle.job.specs.Listing.{Job, digits, decimal, jobLine, endLine, solutionLines, resultLines, faultLines, jobEnded, jobVerdict, listingOf, listed, listedFrom, listing, listingIn, JobSolved}
+use Rattle.job.proofs.Texts.{length-decimal, length-jobLine, length-endLine, length-solutionLines, refused-lines, accepted-lines, length-fault}
+use Rattle.job_format.specs.Rewriting.{maxJob}
+use Rattle.job_format.proofs.Formats.{take-zeros}
+use Rattle.job_format.proofs.Truncation.{job-prefix, sizes-enough}
 
 -- ---- the result
 
@@ -166,6 +130,9 @@ module _ (sizes : Sizes) (inside : InBounds sizes) where
         decimal-below 2 (sizes .count) (omega arith) (omega (arith, inside .count)),
       )
 
+  pub fault-short : (f : Fault) → length (faultLines sizes f) ≤ 60
+  fault-short f = omega (arith, length-fault sizes f, job-short, end-short (f .code) (f .place))
+
   -- a listing of at most 2,080 matrix values and 1,024 right-side values
   pub result-short :
       (verdict : Verdict) (matrix rhs : List Float) →
@@ -245,15 +212,7 @@ pub work-small : (n b : ℕ) → n ≤ 64 → blockWork n b ≤ 4096
 unfolding blockWork
 work-small n b h = mul-le-mul h (min-right n b h)
 
--- ---- arrays of zeros, lent in part
-
-take-zeros : {A : Type 0} (size k : ℕ) (z : A) → k ≤ size → take k (replicate size z) ≡ replicate k z
-take-zeros size k z h =
-    let e : size ≡ k + (size - k) = omega arith in
-    ap (λ (s : ℕ). take k (replicate s z)) e ∙ ap (take k) (sym (replicate-append-replicate k (size - k) z)) ∙ take-at (replicate k z) (replicate (size - k) z) k (length-replicate k z)
-
-pub length-zeros : {A : Type 0} (size k : ℕ) (z : A) → k ≤ size → k ≡ length (take k (replicate size z))
-length-zeros size k z h = sym (ap length (take-zeros size k z h) ∙ length-replicate k z)
+-- ---- the pipeline's end
 
 -- the pipeline's end on the job's memory, with work memory lent from an array of zeros
 pub ended-as :
@@ -276,17 +235,34 @@ module _ (file out : List ℕ) where
   unfolding listingIn
   no-room h = rw (lt-leb 58998 (length out) h)
 
-  pub listing-fault : (place : ℕ) → 58998 ≤ length out → fault place ≡ readSizes file → endLine 13 place ≡ listingIn (length out) file
-  unfolding listingIn listing readJob
-  listing-fault place h e = rw (le-leb 58998 (length out) h, ← e)
+  pub listing-fault : (f : Fault) → 58998 ≤ length out → fault f ≡ readSizes file → endLine (f .code) (f .place) ≡ listingIn (length out) file
+  unfolding listingIn listing
+  listing-fault f h e = rw (le-leb 58998 (length out) h, ← e)
 
   pub listing-sizes :
       (sizes : Sizes) (at : ℕ) → 58998 ≤ length out → found sizes at ≡ readSizes file →
-      listed (andThen (readMap file (sizes .order) at) (λ _ next. readValues file sizes next)) ≡ listingIn (length out) file
-  unfolding listingIn listing readJob
+      listed sizes (readContents Needless file sizes at) ≡ listingIn (length out) file
+  unfolding listingIn listing
   listing-sizes sizes at h e = rw (le-leb 58998 (length out) h, ← e)
 
-pub after-map :
-    (file : List ℕ) (sizes : Sizes) {p q : Parsed (Unit {0})} → p ≡ q →
-    listed (andThen p (λ _ next. readValues file sizes next)) ≡ listed (andThen q (λ _ next. readValues file sizes next))
-after-map file sizes e = ap (λ (x : Parsed (Unit {0})). listed (andThen x (λ _ next. readValues file sizes next))) e
+-- ---- reading 25,098 bytes is enough
+
+-- the listing by what was read of the sizes and of the whole job
+listedBy : Parsed Sizes → Parsed Contents → List ℕ
+listedBy (fault f) job = endLine (f .code) (f .place)
+listedBy (found sizes at) job = listed sizes job
+
+listing-by : (file : List ℕ) → listing file ≡ listedBy (readSizes file) (readJob Needless file)
+unfolding listing readJob listedBy
+listing-by file = go (readSizes file)
+  where
+    go : (p : Parsed Sizes) → listedFrom file p ≡ listedBy p (andThen p (λ sizes at. readContents Needless file sizes at))
+    go (fault f) = refl
+    go (found sizes at) = refl
+
+pub listing-prefix : (file : List ℕ) → listing (take (maxJob + 1) file) ≡ listing file
+listing-prefix file =
+    listing-by (take (maxJob + 1) file)
+    ∙ ap (λ (p : Parsed Sizes). listedBy p (readJob Needless (take (maxJob + 1) file))) (sizes-enough file)
+    ∙ ap (listedBy (readSizes file)) (job-prefix Needless file)
+    ∙ sym (listing-by file)

@@ -1,93 +1,26 @@
--- Laws of specs/Writing.antt and specs/Listing.antt: text after text, the digits of a number from the last up, and the lengths of lines. Assumes nothing.
+-- Laws of specs/Listing.antt: the digits of a number from the last up, lines one after another, and the lengths of lines. Assumes nothing.
 use Prim.Native.Nat.{ℕ, zero, suc, _+_, _-_, _*_, _/_, _%_, _^_, _≤_, _<_}
 use native.Mathlib.Nat.{pow-suc}
 use native.Mathlib.Numerals.{add-one}
 use native.Mathlib.Omega.{arith}
-use mathlib.Core.Path.{_≡_, refl, sym, ap, _∙_, subst}
+use native.Mathlib.Decide.{ℕ-discrete as decEq}
+use mathlib.Core.Path.{_≡_, refl, sym, ap, _∙_}
 use mathlib.Core.Bool.{Bool, true, false, cond}
 use mathlib.Core.List.{List, [], _∷_, _++_, append-assoc, append-nil}
 use lib.Dec.{ltb, eqb}
 use lib.ListN.{length, getD, take, drop, set, length-append, length-drop, length-set}
-use lib.Seq.{length-take-le, take-length, take-all, take-at, drop-at, drop-drop, drop-cons, drop-length, drop-set-lt, getD-set-same, set-split, append-snoc, paste, paste-zero, paste-suc, length-paste}
+use lib.Seq.{take-all, drop-cons, drop-length, drop-set-lt, getD-set-same, append-snoc}
 use lib.Ieee.{Float, nan, binary64, toBits}
 use borrow.Author.Tests.{lt-ltb, le-ltb, eq-eqb, ne-eqb}
 use lib.Pow.{pow-add}
 use Rattle.calls.specs.Sequences.{iterate, grow, tabulate}
 use Rattle.calls.proofs.Sequences.{length-tabulate}
 use Rattle.calls.specs.declared.Verdict.{Verdict}
-use Rattle.job.specs.declared.Sizes.{Sizes}
-use Rattle.job.specs.Writing.{overwrite, Written}
-use Rattle.job.specs.Listing.{digits, decimal, hexDigit, hexadecimal, jobLine, valueLine, valueLines, endLine, solutionLines, resultLines}
-
--- ---- text after text
-
-module _ (memory : List ℕ) (at : ℕ) (text : List ℕ) (fits : at + length text ≤ length memory) where
-  length-front : length (take at memory ++ text) ≡ at + length text
-  length-front = length-append (take at memory) text ∙ ap (λ (k : ℕ). k + length text) (length-take-le at memory (omega arith))
-
-  length-overwrite : length (overwrite at text memory) ≡ length memory
-  length-overwrite =
-      length-append (take at memory ++ text) (drop (at + length text) memory) ∙ ap (λ (k : ℕ). k + length (drop (at + length text) memory)) length-front
-      ∙ ap (λ (k : ℕ). at + length text + k) (length-drop (at + length text) memory) ∙ omega arith
-
-  overwrite-twice : (more : List ℕ) → overwrite (at + length text) more (overwrite at text memory) ≡ overwrite at (text ++ more) memory
-  overwrite-twice more =
-      let front : List ℕ = take at memory ++ text in
-      let rest : List ℕ = drop (at + length text) memory in
-      let e : at + length (text ++ more) ≡ at + length text + length more = omega (arith, length-append text more) in
-      let t : take (at + length text) (front ++ rest) ≡ front = take-at front rest (at + length text) length-front in
-      let d : drop (at + length text + length more) (front ++ rest) ≡ drop (at + length text + length more) memory =
-      sym (drop-drop (length more) (at + length text) (front ++ rest))
-      ∙ ap (drop (length more)) (drop-at front rest (at + length text) length-front)
-      ∙ drop-drop (length more) (at + length text) memory in
-      rw (t, d, e, append-assoc (take at memory) text more)
-
--- what is written, and then what is written after it
-pub then : {at mid end : ℕ} {text more a b c : List ℕ} → Written at text a mid b → Written mid more b end c → at + length text ≤ length a → Written at (text ++ more) a end c
-then {at} {mid} {end} {text} {more} {a} {b} {c} w v h =
-    let n = w .next in
-    let l : length (text ++ more) ≡ length text + length more = length-append text more in
-    record {
-      next = omega (arith, w .next, v .next, l);
-      memory = v .memory ∙ ap (λ (k : ℕ). overwrite k more b) n ∙ ap (λ (m : List ℕ). overwrite (at + length text) more m) (w .memory) ∙ overwrite-twice a at text h more;
-    }
-
-pub as-text : {at end : ℕ} {text text′ a b : List ℕ} → text ≡ text′ → Written at text a end b → Written at text′ a end b
-as-text {at} {end} {text} {text′} {a} {b} e w = subst (λ (t : List ℕ). Written at t a end b) e w
-
-length-written : {at end : ℕ} {text a b : List ℕ} → at + length text ≤ length a → Written at text a end b → length b ≡ length a
-length-written {at} {end} {text} {a} {b} h w = ap length (w .memory) ∙ length-overwrite a at text h
-
--- memory that has kept its length holds all that was written
-pub written-within : {end : ℕ} {text a b : List ℕ} → Written 0 text a end b → length b ≡ length a → end ≤ length a
-written-within w e = omega (arith, simp (length-append, length-drop) at (ap length (w .memory)))
-
-pub nothing-written : (at : ℕ) (a : List ℕ) → Written at [] a at a
-nothing-written at a = record { next = omega arith; memory = paste-zero a at [] }
-
-pub byte-written : (a : List ℕ) (at b : ℕ) → at < length a → Written at (b ∷ []) a (at + 1) (set a at b)
-byte-written a at b h =
-    record {
-      next = refl;
-      memory = set-split a at b h ∙ ap (λ (k : ℕ). take at a ++ b ∷ drop k a) (sym (add-one at)) ∙ sym (append-snoc (take at a) b (drop (at + 1) a));
-    }
-
--- a loop that copies a text: i bytes of it are there
-module _ (a : List ℕ) (at : ℕ) (text : List ℕ) (fits : at + length text ≤ length a) (out : List ℕ) (i : ℕ) (copied : out ≡ paste a at text i) where
-  pub length-copied : i ≤ length text → length out ≡ length a
-  length-copied h = ap length copied ∙ length-paste a at text i (omega arith) h
-
-  pub copy-turn : i < length text → set out (at + i) (getD text i 0) ≡ paste a at text (i + 1)
-  copy-turn h =
-      ap (λ (m : List ℕ). set m (at + i) (getD text i 0)) copied ∙ paste-suc a at text i 0 (omega arith) h ∙ ap (paste a at text) (sym (add-one i))
-
-  pub copy-done : i ≤ length text → length text ≤ i → Written at text a (at + i) out
-  copy-done h k =
-      let e : i ≡ length text = omega arith in
-      record {
-        next = ap (λ (j : ℕ). at + j) e;
-        memory = copied ∙ ap (paste a at text) e ∙ ap (λ (t : List ℕ). take at a ++ t ++ drop (at + length text) a) (take-length text);
-      }
+use Rattle.job_format.specs.declared.Fault.{Fault}
+use Rattle.job_format.specs.declared.Sizes.{Sizes}
+use Rattle.job_format.specs.Writing.{Written}
+use Rattle.job.specs.Listing.{digits, decimal, hexDigit, hexadecimal, jobLine, valueLine, valueLines, endLine, solutionLines, resultLines, faultLines}
+use Rattle.job_format.proofs.Texts.{then, as-text, nothing-written, byte-written, length-written, pieces, tabulated-turn}
 
 -- ---- hexadecimal digits
 
@@ -108,18 +41,13 @@ pub hex-turn :
     Written at (hexDigits bits i) a (at + i) out →
     d ≡ hexDigit (bits / 2 ^ (60 - 4 * i) % 16) →
     Written at (hexDigits bits (i + 1)) a (at + (i + 1)) (set out (at + i) d)
-unfolding tabulate grow
 hex-turn a out at bits i d h l w e =
     let f : ℕ → ℕ = λ j. hexDigit (bits / 16 ^ (15 - j) % 16) in
-    let n : length (tabulate i f) ≡ i = length-tabulate f i in
     let k : 60 - 4 * i ≡ 4 * (15 - i) = omega arith in
     let v : d ≡ f i = e ∙ ap (λ (x : ℕ). hexDigit (bits / x % 16)) (ap (λ (j : ℕ). 2 ^ j) k ∙ pow-four (15 - i)) in
-    let fits : at + length (tabulate i f) ≤ length a = omega arith in
-    let len : length out ≡ length a = length-written fits w in
-    let both : Written at (tabulate i f ++ (d ∷ [])) a (at + i + 1) (set out (at + i) d) = then w (byte-written out (at + i) d (omega arith)) fits in
+    let len : length out ≡ length a = length-written (omega (arith, length-tabulate f i)) w in
     let p : at + (i + 1) ≡ at + i + 1 = omega arith in
-    let t : tabulate (i + 1) f ≡ tabulate i f ++ (d ∷ []) = ap (λ (j : ℕ). tabulate j f) (add-one i) ∙ ap (λ (x : ℕ). tabulate i f ++ (x ∷ [])) (sym v) in
-    rw (p, t) both
+    rw p (tabulated-turn f at (at + i) (at + i + 1) i d a out (set out (at + i) d) (omega arith) w v (byte-written out (at + i) d (omega arith)))
 
 pub hex-start : (a : List ℕ) (at bits : ℕ) → Written at (hexDigits bits 0) a (at + 0) a
 unfolding tabulate grow
@@ -260,40 +188,22 @@ end-text code place = simp append-assoc
 -- ---- lines of values
 
 module _ (head : List ℕ) (vs : List Float) where
-  -- the lines of the first k values
-  abbrev pub linesTo : ℕ → List ℕ
-  linesTo k = iterate (λ j lines. lines ++ valueLine head (getD vs j nan)) k []
+  abbrev pub lineAt : ℕ → List ℕ
+  lineAt j = valueLine head (getD vs j nan)
 
   length-line : length head ≡ 2 → (v : Float) → length (valueLine head v) ≡ 19
   unfolding valueLine
   length-line h v = simp length-append (omega (arith, length-hexadecimal v))
 
-  pub length-lines : length head ≡ 2 → (k : ℕ) → length (linesTo k) ≡ 19 * k
+  pub length-lines : length head ≡ 2 → (k : ℕ) → length (pieces lineAt k) ≡ 19 * k
   unfolding iterate
   length-lines h zero = refl
   length-lines h (suc k) =
-      length-append (linesTo k) (valueLine head (getD vs k nan)) ∙ omega (arith, length-lines h k, length-line h (getD vs k nan))
+      length-append (pieces lineAt k) (lineAt k) ∙ omega (arith, length-lines h k, length-line h (getD vs k nan))
 
-  pub lines-none : (at : ℕ) (a : List ℕ) → Written at (linesTo 0) a at a
-  unfolding iterate
-  lines-none at a = nothing-written at a
-
-  pub lines-turn :
-      (at next end k : ℕ) (a b c : List ℕ) →
-      length head ≡ 2 →
-      at + 19 * length vs ≤ length a →
-      k < length vs →
-      Written at (linesTo k) a next b →
-      Written next (valueLine head (getD vs k nan)) b end c →
-      Written at (linesTo (k + 1)) a end c
-  unfolding iterate
-  lines-turn at next end k a b c h f l w v =
-      let s : k + 1 ≡ suc k = add-one k in
-      rw s (then w v (omega (arith, length-lines h k)))
-
-  pub lines-all : (at end k : ℕ) (a b : List ℕ) → k ≤ length vs → length vs ≤ k → Written at (linesTo k) a end b → Written at (valueLines head vs) a end b
+  pub lines-all : (k : ℕ) → k ≡ length vs → pieces lineAt k ≡ valueLines head vs
   unfolding valueLines
-  lines-all at end k a b h l w = let e : k ≡ length vs = omega arith in as-text (ap linesTo e) w
+  lines-all k e = ap (pieces lineAt) e
 
 pub length-valueLines : (head : List ℕ) (vs : List Float) → length head ≡ 2 → length (valueLines head vs) ≡ 19 * length vs
 unfolding valueLines
@@ -365,3 +275,22 @@ module _ (matrix rhs : List Float) where
 
     pub two-fit : verdict .code ≡ 0 → 0 + length (jobLine (sizes .order) (sizes .block) (sizes .count) ++ solutionLines matrix rhs) ≤ length a
     two-fit h = omega (arith, accepted-fits h, length-append (jobLine (sizes .order) (sizes .block) (sizes .count)) (solutionLines matrix rhs))
+
+-- ---- the lines of a fault
+
+module _ (sizes : Sizes) (f : Fault) where
+  pub end-alone : f .code ≡ 13 → endLine (f .code) (f .place) ≡ faultLines sizes f
+  unfolding faultLines
+  end-alone e = rw (eq-eqb (f .code) 13 e)
+
+  pub both-lines : (f .code ≡ 13 → ⊥) → jobLine (sizes .order) (sizes .block) (sizes .count) ++ endLine (f .code) (f .place) ≡ faultLines sizes f
+  unfolding faultLines
+  both-lines h = rw (ne-eqb (f .code) 13 h)
+
+  -- in either case no more than both
+  pub length-fault : length (faultLines sizes f) ≤ length (jobLine (sizes .order) (sizes .block) (sizes .count)) + length (endLine (f .code) (f .place))
+  length-fault =
+      elim (decEq (f .code) 13) [
+        | yes e ↦ omega (arith, ap length (end-alone e))
+        | no e ↦ omega (arith, ap length (both-lines e), length-append (jobLine (sizes .order) (sizes .block) (sizes .count)) (endLine (f .code) (f .place)))
+      ]

@@ -1,5 +1,2 @@
--- What a reader has to believe of a job: its bytes, and its listing.
-pub mod Reading
-pub mod Format
+-- What a reader has to believe of a job's listing.
 pub mod Listing
-pub mod Writing

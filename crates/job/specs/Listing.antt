@@ -1,11 +1,11 @@
--- Document 01, "A job and its listing": the listing's bytes.
+-- Document 01, "A job and its listing": the job's values from their bits, and the listing's bytes.
 use Prim.Native.Nat.{ℕ, zero, suc, _+_, _-_, _/_, _%_, _^_}
 use mathlib.Core.Bool.{cond}
-use mathlib.Core.List.{List, [], _∷_, _++_}
+use mathlib.Core.List.{List, [], _∷_, _++_, map}
 use mathlib.Core.Path.{_≡_}
-use lib.Dec.{T, leb, ltb}
+use lib.Dec.{T, leb, ltb, eqb}
 use lib.ListN.{length, getD, replicate}
-use lib.Ieee.{Float, nan, binary64, toBits}
+use lib.Ieee.{Float, nan, binary64, ofBits, toBits}
 use Rattle.binary64.specs.Kinds.{zero64}
 use Rattle.shape.specs.Places.{blockWork}
 use Rattle.calls.specs.declared.Verdict.{Verdict}
@@ -13,9 +13,25 @@ use Rattle.calls.specs.Sequences.{iterate, tabulate}
 use Rattle.calls.specs.Refusals.{accepted, rule7, rule8, firstRefusal}
 use Rattle.calls.specs.Calls.{answer}
 use Rattle.calls.specs.Pipelines.{Ended, blockedPipeline}
-use Rattle.job.specs.declared.Sizes.{Sizes}
-use Rattle.job.specs.Reading.{Parsed, fault, found}
-use Rattle.job.specs.Format.{Job, readJob}
+use Rattle.job_format.specs.declared.Fault.{Fault}
+use Rattle.job_format.specs.declared.Sizes.{Sizes}
+use Rattle.job_format.specs.declared.Zeros.the-variants.{Needless}
+use Rattle.job_format.specs.Reading.{Parsed, fault, found}
+use Rattle.job_format.specs.Format.{Contents, readSizes, readContents}
+
+-- ---- values
+
+-- order, block length and number of right-hand sides; packed matrix; right-hand sides one after another
+pub record Job : Type 0 where
+  pub sizes : Sizes
+  pub matrix : List Float
+  pub rhs : List Float
+
+abbrev pub floats : List ℕ → List Float
+floats bits = map (ofBits binary64) bits
+
+abbrev pub jobOf : Contents → Job
+jobOf read = record { sizes = read .sizes; matrix = floats (read .matrix); rhs = floats (read .rhs) }
 
 -- ---- numbers
 
@@ -82,15 +98,24 @@ resultLines sizes verdict matrix rhs =
     ++ cond (accepted verdict) (solutionLines matrix rhs) []
     ++ endLine (verdict .code) (verdict .place)
 
+unfoldable pub faultLines : Sizes → Fault → List ℕ
+faultLines sizes f = cond (eqb (f .code) 13) [] (jobLine (sizes .order) (sizes .block) (sizes .count)) ++ endLine (f .code) (f .place)
+
 unfoldable pub listingOf : Job → List ℕ
 listingOf job = resultLines (job .sizes) (jobVerdict job) (jobEnded job .matrix) (jobEnded job .rhs)
 
-abbrev pub listed : Parsed Job → List ℕ
-listed (fault place) = endLine 13 place
-listed (found job at) = listingOf job
+-- what was read of a job whose sizes are known
+abbrev pub listed : Sizes → Parsed Contents → List ℕ
+listed sizes (fault f) = faultLines sizes f
+listed sizes (found job at) = listingOf (jobOf job)
+
+-- a job whose sizes could not be read has no first line
+abbrev pub listedFrom : List ℕ → Parsed Sizes → List ℕ
+listedFrom file (fault f) = endLine (f .code) (f .place)
+listedFrom file (found sizes at) = listed sizes (readContents Needless file sizes at)
 
 unfoldable pub listing : List ℕ → List ℕ
-listing file = listed (readJob file)
+listing file = listedFrom file (readSizes file)
 
 -- the longest listing: n 64, b 200, m 16, accepted
 abbrev pub maxListing : ℕ

@@ -3,31 +3,15 @@ ghost use mathlib.Core.Path.{_≡_};
 ghost use mathlib.Core.List.{_++_, _∷_, []};
 ghost use Prim.Native.Nat.{_+_, _*_, _≤_, _<_};
 ghost use lib.ListN.{length, drop};
-ghost use Rattle.job.specs.Listing.{decimal, hexDigit, hexadecimal, jobLine, valueLine, valueLines, endLine, solutionLines, resultLines};
-ghost use Rattle.job.specs.Writing.{Written};
-use crate::Sizes;
+ghost use Rattle.job_format.specs.Writing.{Written};
+ghost use Rattle.job.specs.Listing.{decimal, hexDigit, hexadecimal, jobLine, valueLine, valueLines, endLine, solutionLines, resultLines, faultLines};
 use crate::floats::bits_of;
 use calls::Verdict;
-
-fn put_text(out: &mut [u8], at: usize, text: &[u8]) -> usize
-    requires { ⌜ at + length (now text) ≤ length (now out) ⌝ }
-    ensures { λ r. ⌜ Written at (now (text .entry)) (now (out .entry)) r (now (out .exit)) ⌝ }
-{
-    let mut i = 0;
-    while i < text.len() {
-        out[at + i] = text[i];
-        i += 1;
-    }
-    at + i
-}
-
-fn put_byte(out: &mut [u8], at: usize, byte: u8) -> usize
-    requires { ⌜ at < length (now out) ⌝ }
-    ensures { λ r. ⌜ Written at (byte ∷ []) (now (out .entry)) r (now (out .exit)) ⌝ }
-{
-    out[at] = byte;
-    at + 1
-}
+use job_format::Fault;
+use job_format::MALFORMED;
+use job_format::Sizes;
+use job_format::put_byte;
+use job_format::put_text;
 
 fn digit(d: usize) -> u8
     requires { ⌜ d < 10 ⌝ }
@@ -157,4 +141,16 @@ pub fn put_result(
     }
     let next = put_solution(out, next, matrix, rhs);
     put_end(out, next, verdict.code, verdict.place)
+}
+
+// The listing of a job with a fault: its first line is left out where the file is no job.
+pub fn put_fault(out: &mut [u8], sizes: Sizes, fault: Fault) -> usize
+    requires { ⌜ length (faultLines sizes fault) ≤ length (now out) ⌝ }
+    ensures { λ r. ⌜ Written 0 (faultLines sizes fault) (now (out .entry)) r (now (out .exit)) ⌝ }
+{
+    if fault.code == MALFORMED {
+        return put_end(out, 0, fault.code, fault.place);
+    }
+    let next = put_job(out, 0, sizes.order, sizes.block, sizes.count);
+    put_end(out, next, fault.code, fault.place)
 }

@@ -1,60 +1,14 @@
 // Reads one job from standard input and writes its listing to standard output. A failed read or write, and nothing else, is told on standard
 // error, which the launcher run-job turns into status 1.
-ghost use Prim.Native.Nat.{_≤_};
-ghost use lib.ListN.{length};
+use input::read_input;
 use job::LISTING;
+use job_format::MAX_JOB;
 use libc::STDERR_FILENO;
-use libc::STDIN_FILENO;
 use libc::STDOUT_FILENO;
 
-// One byte more than the longest job has, so that an extra byte is seen.
-const JOB: usize = 25098;
-
-// How many bytes were read, and whether a read failed.
-struct Input {
-    failed: bool,
-    count: usize,
-}
-
-fn read_some(buffer: &mut [u8]) -> Input
-    ensures { λ r. ⌜ r .count ≤ length (now (buffer .entry)) ⌝ }
-{
-    let got = libc::read(STDIN_FILENO, buffer);
-    Input {
-        failed: got < 0,
-        count: io::count(got, buffer),
-    }
-}
-
-// Up to the end of the input, or until the buffer is full.
-fn read_input(buffer: &mut [u8]) -> Input
-    ensures { λ r. ⌜ r .count ≤ length (now (buffer .entry)) ⌝ }
-{
-    let mut at = 0;
-    while at < buffer.len() {
-        let got = read_some(&mut buffer[at..]);
-        if got.failed {
-            return Input {
-                failed: true,
-                count: at,
-            };
-        }
-        if got.count == 0 {
-            return Input {
-                failed: false,
-                count: at,
-            };
-        }
-        at += got.count;
-    }
-    Input {
-        failed: false,
-        count: at,
-    }
-}
-
 fn main() {
-    let mut file = [0u8; JOB];
+    // One byte more than the longest job has, so that an extra byte is seen.
+    let mut file = [0u8; MAX_JOB + 1];
     let mut out = [0u8; LISTING];
     let input = read_input(&mut file);
     let size = input.count;

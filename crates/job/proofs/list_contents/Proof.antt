@@ -1,28 +1,32 @@
--- `job::list_contents` meets its contract. A fault is listed alone; else the job is solved. Assumes nothing.
+-- `job::list_contents` meets its contract. A fault is listed as a refusal; else the job is listed. Assumes nothing.
 use native.Mathlib.Omega.{arith}
 use mathlib.Core.Path.{sym, ap, _∙_}
-use Rattle.job.specs.Format.{parsedAs}
-use Rattle.job.specs.Listing.{listed}
-use Rattle.job.proofs.Texts.{as-text}
-use Rattle.job.proofs.Listings.{end-short}
 use borrow.Author.Needs.{needs}
+use Rattle.job_format.specs.Format.{Contents, parsedAs}
+use Rattle.job.specs.Listing.{listed}
+use Rattle.job_format.proofs.Texts.{as-text}
+use Rattle.job.proofs.Listings.{fault-short}
 use Rattle.job.proofs.list_contents.Statement.{statement}
 use Rattle.job.proofs.list_contents.Tie as tie
 
 read-contents-requires : tie.Need-read-contents-requires
 read-contents-requires c κs = search needs
 
-enum-known-place : tie.Need-enum-known-place
-enum-known-place c = search needs
+enum-known-fault : tie.Need-enum-known-fault
+enum-known-fault c = search needs
 
-put-end-requires : tie.Need-put-end-requires
-put-end-requires c κs = omega (arith, end-short 13 (c .before .before .place .given .0 .0))
+put-fault-requires : tie.Need-put-fault-requires
+put-fault-requires c κs =
+    let fault = c .before .before in
+    let start = fault .before .before .before .before .before .before .before .before .before .before .before .before .before in
+    let f = fault .fault .given .0 .0 in
+    omega (arith, fault-short (start .args .sizes) (start .pre .0) f, start .pre .1 .1 .1)
 
 enum-told : tie.Need-enum-told
 enum-told c = search needs
 
-list-solved-requires : tie.Need-list-solved-requires
-list-solved-requires c κs = search needs
+list-read-requires : tie.Need-list-read-requires
+list-read-requires c κs = search needs
 
 same-length : tie.Need-same-length
 same-length c = search needs
@@ -35,11 +39,11 @@ same-length-3 c = search needs
 
 returns : tie.Need-returns
 returns c =
-    let read-contents = c .before .before .before .before .before .before .before .before .before .before .before .read-contents in
-    let a = c .before .before .before .before .before .before .before .before .before .before .before .before .before .before .before .before .before .before .args in
-    as-text (ap listed (sym (ap (parsedAs
-    (record { sizes = (a .sizes); matrix = (read-contents .last .1 .1 .1 .0); rhs = (read-contents .last .1 .1 .1 .1 .0) }))
-    (c .before .before .before .before .before .place .given .1)) ∙ (read-contents .ensures))) (c .before .before .put-end .ensures)
+    let fault = c .before .before .before .before .before in
+    let read = fault .before .before .before .before .before .before in
+    let a = read .before .before .before .before .before .before .before .args in
+    let job : Contents = record { sizes = a .sizes; matrix = read .read-contents .last .1 .1 .1 .1 .0; rhs = read .read-contents .last .1 .1 .1 .1 .1 .0 } in
+    as-text (ap (listed (a .sizes)) (sym (ap (parsedAs job) (fault .fault .given .1)) ∙ read .read-contents .ensures)) (c .before .before .put-fault .ensures)
 
 same-length-4 : tie.Need-same-length-4
 same-length-4 c = search needs
@@ -52,22 +56,21 @@ same-length-6 c = search needs
 
 returns-2 : tie.Need-returns-2
 returns-2 c =
-    let read-contents = c .before .before .before .before .before .before .before .before .before .before .before .before .before .before .before .before .read-contents in
-    let a = c .before .before .before .before .before .before .before .before .before .before .before .before .before .before .before .before .before .before .before .before .before .before .before .args in
-    as-text (ap listed (sym (ap (parsedAs
-    (record { sizes = (a .sizes); matrix = (read-contents .last .1 .1 .1 .0); rhs = (read-contents .last .1 .1 .1 .1 .0) }))
-    (c .before .before .before .before .before .before .before .before .before .before .enum-told .given .1)) ∙ (read-contents .ensures)))
-    (c .before .before .before .before .before .before .list-solved .ensures)
+    let told = c .before .before .before .before .before .before in
+    let read = told .before .before .before .before .before .before in
+    let a = read .before .before .before .before .before .before .before .args in
+    let job : Contents = record { sizes = a .sizes; matrix = read .read-contents .last .1 .1 .1 .1 .0; rhs = read .read-contents .last .1 .1 .1 .1 .1 .0 } in
+    as-text (ap (listed (a .sizes)) (sym (ap (parsedAs job) (told .enum-told .given .1)) ∙ read .read-contents .ensures)) (c .before .before .list-read .ensures)
 
 pub list-contents-spec : {M : Type 1} → statement M
 list-contents-spec =
     tie.close
     (tie.spec
     read-contents-requires
-    enum-known-place
-    put-end-requires
+    enum-known-fault
+    put-fault-requires
     enum-told
-    list-solved-requires
+    list-read-requires
     same-length
     same-length-2
     same-length-3

@@ -2,10 +2,8 @@
 use Prim.Native.Nat.{_*_, _≤_}
 use native.Mathlib.Omega.{arith}
 use mathlib.Core.Path.{sym, ap, _∙_}
-use lib.Ieee.{binary64, ofBits}
 use Rattle.shape.specs.Places.{triangle}
-use Rattle.job.proofs.Formats.{triangle-small, values-small}
-use Rattle.job.proofs.Listings.{length-zeros}
+use Rattle.job_format.proofs.Formats.{triangle-small, values-small, length-zeros}
 use borrow.Author.Needs.{needs}
 use Rattle.job.proofs.list_values.Statement.{statement}
 use Rattle.job.proofs.list_values.Tie as tie
@@ -32,7 +30,7 @@ array-borrow-prefix-matrix : tie.Need-array-borrow-prefix-matrix
 array-borrow-prefix-matrix c = entries-fit (c .before)
 
 slice-aggregate-list-contents : tie.Need-slice-aggregate-list-contents
-slice-aggregate-list-contents c = length-zeros 2080 (c .before .before .triangle .result) (ofBits binary64 0) (entries-fit (c .before .before))
+slice-aggregate-list-contents c = length-zeros 2080 (c .before .before .triangle .result) 0 (entries-fit (c .before .before))
 
 array-borrow-prefix-rhs : tie.Need-array-borrow-prefix-rhs
 array-borrow-prefix-rhs c = values-fit (c .before .before .before .before .before .before)
@@ -40,7 +38,7 @@ array-borrow-prefix-rhs c = values-fit (c .before .before .before .before .befor
 slice-aggregate-list-contents-2 : tie.Need-slice-aggregate-list-contents-2
 slice-aggregate-list-contents-2 c =
     let start = c .before .before .before .before .before .before .before in
-    length-zeros 1024 (start .args .sizes .order * start .args .sizes .count) (ofBits binary64 0) (values-fit start)
+    length-zeros 1024 (start .args .sizes .order * start .args .sizes .count) 0 (values-fit start)
 
 list-contents-requires : tie.Need-list-contents-requires
 list-contents-requires c κs =
@@ -48,10 +46,10 @@ list-contents-requires c κs =
     let entries = c .before .before .before .before in (
       start .pre .0,
       (
-        sym (length-zeros 2080 (entries .triangle .result) (ofBits binary64 0) (entries-fit entries))
+        sym (length-zeros 2080 (entries .triangle .result) 0 (entries-fit entries))
             ∙ entries .triangle .ensures ∙ ap triangle (entries .before .new .ensures .0),
         (
-          sym (length-zeros 1024 (start .args .sizes .order * start .args .sizes .count) (ofBits binary64 0) (values-fit start)),
+          sym (length-zeros 1024 (start .args .sizes .order * start .args .sizes .count) 0 (values-fit start)),
           start .pre .1,
         ),
       ),

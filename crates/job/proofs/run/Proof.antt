@@ -1,9 +1,10 @@
 -- `job::run` meets its contract. By the room in out, and by what the sizes' reading gave. Assumes nothing.
 use native.Mathlib.Omega.{arith}
 use mathlib.Core.Path.{sym, ap, _∙_}
-use Rattle.job.specs.Format.{parsedSizes}
-use Rattle.job.proofs.Texts.{as-text, nothing-written}
-use Rattle.job.proofs.Listings.{sizes-bounds, end-short, no-room, listing-fault, listing-sizes}
+use Rattle.job_format.specs.Format.{parsedSizes}
+use Rattle.job_format.proofs.Texts.{as-text, nothing-written}
+use Rattle.job.proofs.Listings.{end-short, no-room, listing-fault, listing-sizes}
+use Rattle.job_format.proofs.Formats.{sizes-bounds}
 use borrow.Author.Needs.{needs}
 use Rattle.job.proofs.run.Statement.{statement}
 use Rattle.job.proofs.run.Tie as tie
@@ -16,17 +17,17 @@ returns c =
 read-sizes-requires : tie.Need-read-sizes-requires
 read-sizes-requires c κs = search needs
 
-enum-known-place : tie.Need-enum-known-place
-enum-known-place c = search needs
+enum-known-fault : tie.Need-enum-known-fault
+enum-known-fault c = search needs
 
 put-end-requires : tie.Need-put-end-requires
-put-end-requires c κs = omega (arith, end-short 13 (c .before .before .place .given .0 .0))
+put-end-requires c κs = omega (arith, end-short (c .before .before .fault .given .0 .0 .code) (c .before .before .fault .given .0 .0 .place))
 
 enum-known-sizes : tie.Need-enum-known-sizes
 enum-known-sizes c = search needs
 
-list-mapped-requires : tie.Need-list-mapped-requires
-list-mapped-requires c κs =
+list-values-requires : tie.Need-list-values-requires
+list-values-requires c κs =
     let a = c .before .before .before .before .before .before .before .before .args in (
       sizes-bounds (a .file .now) (c .before .before .sizes .given .0 .0) (c .before .before .sizes .given .0 .1 .0)
           (sym (sym (ap parsedSizes (c .before .before .sizes .given .1)) ∙
@@ -40,10 +41,10 @@ same-length c = search needs
 returns-2 : tie.Need-returns-2
 returns-2 c =
     let a = c .before .before .before .before .before .before .before .before .before .before .before .args in
-    let place = c .before .before .before .before .before .place in
-    as-text (listing-fault (a .file .now) (a .out .now) (place .given .0 .0)
+    let fault = c .before .before .before .before .before .fault in
+    as-text (listing-fault (a .file .now) (a .out .now) (fault .given .0 .0)
     (c .before .before .before .before .before .before .before .before .if1 .left)
-    (sym (ap parsedSizes (place .given .1)) ∙ (c .before .before .before .before .before .before .before .read-sizes .ensures)))
+    (sym (ap parsedSizes (fault .given .1)) ∙ (c .before .before .before .before .before .before .before .read-sizes .ensures)))
     (c .before .before .put-end .ensures)
 
 same-length-2 : tie.Need-same-length-2
@@ -55,7 +56,7 @@ returns-3 c =
     as-text (listing-sizes (a .file .now) (a .out .now) (c .before .before .before .before .before .sizes .given .0 .0)
     (c .before .before .before .before .before .sizes .given .0 .1 .0) (c .before .before .before .before .before .before .before .before .if1 .left)
     (sym (ap parsedSizes (c .before .before .before .before .before .sizes .given .1)) ∙
-    (c .before .before .before .before .before .before .before .read-sizes .ensures))) (c .before .before .list-mapped .ensures)
+    (c .before .before .before .before .before .before .before .read-sizes .ensures))) (c .before .before .list-values .ensures)
 
 pub run-spec : {M : Type 1} → statement M
 run-spec =
@@ -63,10 +64,10 @@ run-spec =
     (tie.spec
     returns
     read-sizes-requires
-    enum-known-place
+    enum-known-fault
     put-end-requires
     enum-known-sizes
-    list-mapped-requires
+    list-values-requires
     same-length
     returns-2
     same-length-2

@@ -2,7 +2,7 @@
 use native.Mathlib.Omega.{arith}
 use mathlib.Core.Path.{sym}
 use lib.Seq.{length-take-le}
-use Rattle.job.proofs.Texts.{written-within}
+use Rattle.job_format.proofs.Texts.{written-within}
 use borrow.Author.Needs.{needs}
 use Rattle.run_job.proofs.main.Statement.{statement}
 use Rattle.run_job.proofs.main.Tie as tie

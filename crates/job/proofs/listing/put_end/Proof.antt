@@ -1,6 +1,7 @@
 -- `job::listing::put_end` meets its contract. The head, then two numbers. Assumes nothing.
 use native.Mathlib.Omega.{arith}
-use Rattle.job.proofs.Texts.{then, as-text, end-text, length-endLine, length-number, end-fits-code}
+use Rattle.job_format.proofs.Texts.{then, as-text}
+use Rattle.job.proofs.Texts.{end-text, length-endLine, length-number, end-fits-code}
 use borrow.Author.Needs.{needs}
 use Rattle.job.proofs.listing.put_end.Statement.{statement}
 use Rattle.job.proofs.listing.put_end.Tie as tie

@@ -1,6 +1,7 @@
 -- `job::listing::put_job` meets its contract. The head, then three numbers. Assumes nothing.
 use native.Mathlib.Omega.{arith}
-use Rattle.job.proofs.Texts.{then, as-text, job-text, length-jobLine, length-number, job-fits-order, job-fits-block}
+use Rattle.job_format.proofs.Texts.{then, as-text}
+use Rattle.job.proofs.Texts.{job-text, length-jobLine, length-number, job-fits-order, job-fits-block}
 use borrow.Author.Needs.{needs}
 use Rattle.job.proofs.listing.put_job.Statement.{statement}
 use Rattle.job.proofs.listing.put_job.Tie as tie

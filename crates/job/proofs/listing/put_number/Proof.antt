@@ -2,7 +2,8 @@
 use native.Mathlib.Omega.{arith}
 use mathlib.Core.Path.{ap}
 use lib.ListN.{length}
-use Rattle.job.proofs.Texts.{then, as-text, tail-text}
+use Rattle.job_format.proofs.Texts.{then, as-text}
+use Rattle.job.proofs.Texts.{tail-text}
 use borrow.Author.Needs.{needs}
 use Rattle.job.proofs.listing.put_number.Statement.{statement}
 use Rattle.job.proofs.listing.put_number.Tie as tie

@@ -3,7 +3,8 @@ use native.Mathlib.Omega.{arith}
 use mathlib.Core.Path.{refl}
 use mathlib.Core.List.{[], _∷_}
 use Rattle.job.specs.Listing.{solutionLines}
-use Rattle.job.proofs.Texts.{then, length-solutionLines, length-valueLines}
+use Rattle.job_format.proofs.Texts.{then}
+use Rattle.job.proofs.Texts.{length-solutionLines, length-valueLines}
 use borrow.Author.Needs.{needs}
 use Rattle.job.proofs.listing.put_solution.Statement.{statement}
 use Rattle.job.proofs.listing.put_solution.Tie as tie

@@ -3,13 +3,14 @@ use Prim.Native.Nat.{_-_, _≤_}
 use native.Mathlib.Omega.{arith}
 use mathlib.Core.Path.{_≡_, refl, _∙_}
 use lib.ListN.{length}
-use Rattle.job.specs.Writing.{Written}
-use Rattle.job.proofs.Texts.{linesTo, length-lines, lines-none, lines-turn, lines-all}
+use Rattle.job_format.specs.Writing.{Written}
+use Rattle.job_format.proofs.Texts.{as-text, pieces, pieces-none, pieces-turn}
+use Rattle.job.proofs.Texts.{lineAt, length-lines, lines-all}
 use Rattle.job.proofs.listing.put_values.Statement.{statement}
 use Rattle.job.proofs.listing.put_values.Tie as tie
 
 abbrev Inv-loop : tie.InvT-loop
-Inv-loop out₀ at head values next₀ k₀ out next k = (k ≤ length values) × (length out ≡ length out₀) × Written at (linesTo head values k) out₀ next out
+Inv-loop out₀ at head values next₀ k₀ out next k = (k ≤ length values) × (length out ≡ length out₀) × Written at (pieces (lineAt head values) k) out₀ next out
 
 abbrev μ-loop : tie.MeasureT-loop
 μ-loop out₀ at head values next₀ k₀ out next k = length values - k
@@ -17,7 +18,7 @@ abbrev μ-loop : tie.MeasureT-loop
 loop-holds : tie.Need-loop-holds Inv-loop μ-loop
 loop-holds c =
     let a = c .before .before .before .args in
-    (omega arith, refl, lines-none (a .head .now) (a .values .now) (a .at) (a .out .now))
+    (omega arith, refl, pieces-none (lineAt (a .head .now) (a .values .now)) (a .at) (a .out .now))
 
 mul-put-value : tie.Need-mul-put-value Inv-loop μ-loop
 mul-put-value c = omega arith
@@ -45,9 +46,9 @@ loop-again c =
     let pre = c .before .before .before .before .before .before .before .before .before .before .pre in (
       omega arith,
       (c .before .before .put-value .kept .0) ∙ (l .inv .1),
-      lines-turn (a .head .now) (a .values .now) (a .at) (l .next)
-          (c .before .before .put-value .result) (l .k) (a .out .now) (l .out) (c .before .before .put-value .last .0) (pre .0) (pre .1)
-          (c .before .before .before .before .before .loop-test .taken) (l .inv .2) (c .before .before .put-value .ensures),
+      pieces-turn (lineAt (a .head .now) (a .values .now)) (a .at) (l .next) (c .before .before .put-value .result) (l .k) (a .out .now) (l .out)
+          (c .before .before .put-value .last .0) (omega (arith, length-lines (a .head .now) (a .values .now) (pre .0) (l .k))) (l .inv .2)
+          (c .before .before .put-value .ensures),
     )
 
 same-length : tie.Need-same-length Inv-loop μ-loop
@@ -56,8 +57,7 @@ same-length c = (c .before .loop .inv .1)
 returns : tie.Need-returns Inv-loop μ-loop
 returns c =
     let a = c .before .before .before .before .before .args in
-    lines-all (a .head .now) (a .values .now) (a .at) (c .before .loop .next) (c .before .loop .k) (a .out .now) (c .before .loop .out)
-    (c .before .loop .inv .0) (c .loop-test .left) (c .before .loop .inv .2)
+    as-text (lines-all (a .head .now) (a .values .now) (c .before .loop .k) (omega (arith, c .before .loop .inv .0))) (c .before .loop .inv .2)
 
 pub put-values-spec : {M : Type 1} → statement M
 put-values-spec =
