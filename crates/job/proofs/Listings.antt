@@ -1,16 +1,15 @@
 -- Laws of specs/Listing.antt: the bounds of a job that was read, its result from its parts, and the lengths of listings. Assumes nothing.
-use Prim.Native.Nat.{ℕ, zero, suc, _+_, _-_, _/_, _%_, _^_, _≤_, _<_, min}
+use Prim.Native.Nat.{ℕ, zero, suc, _+_, _/_, _%_, _^_, _≤_, _<_, min}
 use native.Mathlib.Nat.{pow-suc, mul-le-mul}
 use native.Mathlib.Omega.{arith}
 use native.Mathlib.Decide.{ℕ-discrete as decEq}
 use mathlib.Core.Path.{_≡_, refl, sym, ap, _∙_, subst}
 use mathlib.Core.Bool.{Bool, true, false, cond, not, _&&_}
 use mathlib.Core.List.{List, [], _∷_, _++_}
-use lib.Dec.{T, leb, ltb, eqb→eq}
-use lib.ListN.{length, take, replicate, length-append, length-replicate, replicate-append-replicate}
-use lib.Seq.{take-at}
+use lib.Dec.{T, ltb, eqb→eq}
+use lib.ListN.{length, take, replicate, length-append}
 use lib.Ieee.{Float, binary64, ofBits}
-use borrow.Author.Tests.{lt-ltb, le-leb, lt-leb, leb-true, eq-eqb, ne-eqb}
+use borrow.Author.Tests.{lt-ltb, le-leb, lt-leb, eq-eqb, ne-eqb}
 use Rattle.shape.specs.Places.{blockWork}
 use Rattle.shape.specs.declared.Shape.{Shape}
 use Rattle.calls.specs.declared.Verdict.{Verdict}

@@ -1,4 +1,4 @@
--- Which patterns and which values are NaN, by their kinds, and a run of values from their bits. Assumes nothing.
+-- Which patterns and which values are NaN, by their kinds, which pattern is +0, and a run of values from their bits. Assumes nothing.
 use Prim.Native.Nat.{ℕ, suc, _+_, _^_, _≤_, _<_}
 use native.Mathlib.Numerals.{add-one}
 use native.Mathlib.Omega.{arith}
@@ -8,10 +8,10 @@ use mathlib.Core.Bool.{Bool, not}
 use lib.Dec.{T}
 use lib.ListN.{length, getD, take, set, length-set, length-map, List·getD-map}
 use lib.Seq.{take-suc, take-suc-set, take-all}
-use lib.Ieee.{Float, nan, binary64, div, nanBits, fits, ofBits, toBits}
-use lib.Ieee.Bits.{nanBits-is, ofBits-fits}
+use lib.Ieee.{Float, nan, isNan, binary64, div, nanBits, fits, ofBits, toBits}
+use lib.Ieee.Bits.{nanBits-is, ofBits-fits, toBits-ofBits}
 use Rattle.binary64.specs.declared.kinds.Kind.the-variants.{NaN}
-use Rattle.binary64.specs.Kinds.{kindOfBits, kind}
+use Rattle.binary64.specs.Kinds.{zero64, kindOfBits, kind}
 use Rattle.binary64.proofs.KindLaws.{kind-of-pattern}
 use Rattle.binary64.proofs.Values.{nan-of-kind, number-of-kind}
 use Rattle.job.specs.Listing.{floats}
@@ -31,6 +31,14 @@ module _ (p : ℕ) (h : p < 2 ^ 64) where
 pub nan-bits : (v : Float) → T (fits binary64 v) → kind v ≡ NaN → 0x7ff8_0000_0000_0000 ≡ toBits binary64 v
 unfolding toBits
 nan-bits v f e = rw (nan-of-kind v f e)
+
+-- +0 is the pattern 0, and no other pattern is
+pub zero-pattern : (p : ℕ) → p < 2 ^ 64 → (ofBits binary64 p ≡ zero64 → p ≡ 0) × (p ≡ 0 → ofBits binary64 p ≡ zero64)
+unfolding toBits ofBits isNan
+zero-pattern p h = (
+  (λ e. sym (toBits-ofBits binary64 p h (subst (λ (v : Float). T (not (isNan v))) (sym e) tt)) ∙ ap (toBits binary64) e),
+  (λ z. ap (ofBits binary64) z),
+)
 
 -- a loop that turns bits into values: the first k are there
 pub record FloatsTo (bits : List ℕ) (out : List Float) (k : ℕ) : Type 0 where

@@ -1,7 +1,6 @@
 -- Laws of specs/Listing.antt: the digits of a number from the last up, lines one after another, and the lengths of lines. Assumes nothing.
 use Prim.Native.Nat.{ℕ, zero, suc, _+_, _-_, _*_, _/_, _%_, _^_, _≤_, _<_}
 use native.Mathlib.Nat.{pow-suc}
-use native.Mathlib.Numerals.{add-one}
 use native.Mathlib.Omega.{arith}
 use native.Mathlib.Decide.{ℕ-discrete as decEq}
 use mathlib.Core.Path.{_≡_, refl, sym, ap, _∙_}
@@ -20,7 +19,7 @@ use Rattle.job_format.specs.declared.Fault.{Fault}
 use Rattle.job_format.specs.declared.Sizes.{Sizes}
 use Rattle.job_format.specs.Writing.{Written}
 use Rattle.job.specs.Listing.{digits, decimal, hexDigit, hexadecimal, jobLine, valueLine, valueLines, endLine, solutionLines, resultLines, faultLines}
-use Rattle.job_format.proofs.Texts.{then, as-text, nothing-written, byte-written, length-written, pieces, tabulated-turn}
+use Rattle.job_format.proofs.Texts.{as-text, nothing-written, byte-written, length-written, pieces, tabulated-turn}
 
 -- ---- hexadecimal digits
 

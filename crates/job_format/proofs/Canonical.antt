@@ -1,34 +1,33 @@
 -- The statements of specs/Rewriting.antt. A job's parts stand in the file where they are written, so what is written is read back, and what was read without a
 -- needless zero is what is written. Assumes nothing.
 use Prim.Native.Nat.{ℕ, zero, suc, _+_, _-_, _*_, _/_, _%_, _^_, _≤_, _<_}
-use native.Mathlib.Nat.{pow-zero, pow-suc, zero-div, div-one, div-eq-of-lt, mod-lt}
-use native.Mathlib.Numerals.{add-one}
+use native.Mathlib.Nat.{pow-zero, zero-div, div-one, div-eq-of-lt}
 use native.Mathlib.Omega.{arith}
-use native.Mathlib.Decide.{decLt, decLe}
+use native.Mathlib.Decide.{decLt}
 use mathlib.Core.Path.{_≡_, refl, sym, ap, _∙_, subst}
-use mathlib.Core.Logic.{_⊎_, inl, inr}
-use mathlib.Core.Bool.{Bool, true, false, cond, not, _||_}
+use mathlib.Core.Logic.{inl, inr}
+use mathlib.Core.Bool.{Bool, true, false, not}
 use mathlib.Core.List.{List, [], _∷_, _++_}
-use lib.Dec.{T, leb, eqb}
+use lib.Dec.{T, eqb}
 use lib.ListN.{length, getD, take, drop, length-append, length-drop, List·getD-append, List·getD-eq-default}
-use lib.Pow.{areBytes, pow-mono, pow-pos, shr-shr}
-use lib.Seq.{getD-at, take-suc, take-all, take-length, ext-getD, length-take-le, getD-take, getD-drop}
-use borrow.Author.Tests.{le-leb, eq-eqb, ne-eqb, eqb-true, eqb-false}
+use lib.Pow.{areBytes, shr-shr}
+use lib.Seq.{getD-at, take-suc, take-all, length-take-le, getD-take, getD-drop}
+use borrow.Author.Tests.{ne-eqb, eqb-true}
 use Rattle.calls.specs.Sequences.{iterate, tabulate}
 use Rattle.calls.proofs.Sequences.{iterate-alike, length-tabulate, getD-tabulate, tabulate-of}
 use Rattle.shape.specs.Places.{triangle}
 use Rattle.job_format.specs.declared.Sizes.{Sizes}
 use Rattle.job_format.specs.declared.Zeros.{Zeros}
 use Rattle.job_format.specs.declared.Zeros.the-variants.{Kept, Needless}
-use Rattle.job_format.specs.Reading.{fault, found, littleEndian, field, bounded, needless, value, values}
-use Rattle.job_format.specs.Format.{Contents, InBounds, mapBytes, mapBit, padded, readSizes, readMap, readValues, readContents, readJob}
-use Rattle.job_format.specs.Rewriting.{bytesOf, sizesBytes, bitsFrom, stands, mapOf, valueBytes, valuesBytes, jobBytes, written, rewritten, SameBytes, ReadsBack, GivesBack}
-use Rattle.job_format.proofs.Fields.{bounded-in, value-absent, value-read}
-use Rattle.job_format.proofs.Formats.{map-whole, map-padded, sizes-found, sizes-bounds, contents-found, contents-mapped, job-contents}
+use Rattle.job_format.specs.Reading.{found, field, bounded, needless, value, values}
+use Rattle.job_format.specs.Format.{Contents, InBounds, mapBytes, mapBit, padded, readSizes, readMap, readJob}
+use Rattle.job_format.specs.Rewriting.{bytesOf, sizesBytes, stands, mapOf, valueBytes, valuesBytes, jobBytes, written, rewritten, SameBytes, ReadsBack, GivesBack}
+use Rattle.job_format.proofs.Fields.{then-found, bounded-in, value-absent, value-read}
+use Rattle.job_format.proofs.Formats.{map-whole, map-padded, sizes-found, contents-found, contents-mapped, job-contents}
 use Rattle.job_format.proofs.Digits.{length-bytes, bytes-at, bit, bits-at, bits-number, bits-short}
 use Rattle.job_format.proofs.JobBytes.{length-sizes, mapByte, length-map, value-dropped, value-whole, valuesTo, values-all}
-use Rattle.job_format.proofs.Parts.{Holds, holds-self, holds-whole, holds-join, holds-first, holds-second, holds-within, holds-at, field-holds, holds-field}
-use Rattle.job_format.proofs.Readings.{then-found, field-found, bounded-field, value-found, values-found, length-found, map-found, Read, job-read, Sized, read-sized, Bounded, read-bounded, read-formerly}
+use Rattle.job_format.proofs.Parts.{Holds, holds-self, holds-whole, holds-join, holds-first, holds-second, holds-at, field-holds, holds-field}
+use Rattle.job_format.proofs.Readings.{field-found, bounded-field, value-found, values-found, length-found, map-found, Read, job-read, Sized, read-sized, Bounded, read-bounded, read-formerly}
 
 -- ---- the sizes
 
@@ -92,10 +91,6 @@ values-alike : (zeros : Zeros) (xs ys : List ℕ) (k : ℕ) → ((j : ℕ) → j
 values-alike zeros xs ys k same =
     iterate-alike (λ j text. text ++ valueBytes zeros (getD xs j 0)) (λ j text. text ++ valueBytes zeros (getD ys j 0)) k []
     (λ j h. ap (λ (x : ℕ). valuesTo zeros ys j ++ valueBytes zeros x) (same j h))
-
-values-next : (zeros : Zeros) (xs : List ℕ) (k : ℕ) → valuesTo zeros xs (suc k) ≡ valuesTo zeros xs k ++ valueBytes zeros (getD xs k 0)
-unfolding iterate
-values-next zeros xs k = refl
 
 module _ (zeros : Zeros) (file : List ℕ) (present : ℕ → Bool) (at : ℕ) where
   -- what a run of values was read from; +0 for one that is not present is needless

@@ -6,7 +6,6 @@ use lib.Dec.{T, eqb}
 use lib.ListN.{length, take, replicate}
 use Rattle.calls.specs.Sequences.{iterate, grow, tabulate}
 use Rattle.shape.specs.Places.{triangle}
-use Rattle.job_format.specs.declared.Fault.{Fault}
 use Rattle.job_format.specs.Reading.{Parsed, fault, found, littleEndian, field, bounded, needless, value, values}
 use Rattle.job_format.specs.Format.{readSizes, mapBytes, mapBit, padded, readMap, readValues, readContents, readJob}
 use Rattle.job_format.specs.Rewriting.{bytesOf, sizesBytes, bitsFrom, stands, mapOf, valueBytes, valuesBytes, jobBytes, written, rewritten}

@@ -1,4 +1,4 @@
--- Laws of specs/Reading.antt: a field, a bounded field and a run of values, each from what the one before it gave. Assumes nothing.
+-- Laws of specs/Reading.antt: steps that found something, a field, a bounded field and a run of values, each from what the one before it gave. Assumes nothing.
 use Prim.Native.Nat.{ℕ, zero, suc, _+_, _-_, _≤_, _<_}
 use native.Mathlib.Numerals.{add-one}
 use native.Mathlib.Omega.{arith}
@@ -11,7 +11,24 @@ use lib.Seq.{take-suc-set, take-all}
 use borrow.Author.Tests.{le-leb, lt-leb}
 use Rattle.job_format.specs.declared.Fault.{Fault}
 use Rattle.job_format.specs.declared.Zeros.{Zeros}
-use Rattle.job_format.specs.Reading.{fault, found, malformed, needlessZero, littleEndian, field, bounded, needless, value, values}
+use Rattle.job_format.specs.Reading.{Parsed, fault, found, andThen, require, malformed, needlessZero, littleEndian, field, bounded, needless, value, values}
+
+-- ---- steps
+
+pub fault-found : {A B : Type 0} {f : Fault} {a : A} {at : ℕ} → fault f ≡ found a at → B
+fault-found e = let z : _≡_ {A = ℕ} 0 1 = cc in absurd (omega arith)
+
+pub then-found :
+    {A B : Type 0} (p : Parsed A) (rest : A → ℕ → Parsed B) (b : B) (end : ℕ) → andThen p rest ≡ found b end →
+    (a : A) × (at : ℕ) × (p ≡ found a at) × (rest a at ≡ found b end)
+then-found (fault f) rest b end e = fault-found e
+then-found (found a at) rest b end e = (a, at, refl, e)
+
+pub require-found : {A : Type 0} (t : Bool) (f : Fault) (p : Parsed A) (b : A) (end : ℕ) → require t f p ≡ found b end → (t ≡ true) × (p ≡ found b end)
+require-found true f p b end e = (refl, e)
+require-found false f p b end e = fault-found e
+
+-- ---- a field
 
 module _ (file : List ℕ) (at width : ℕ) where
   pub field-there : at + width ≤ length file → field file at width ≡ found (littleEndian (take width (drop at file))) (at + width)

@@ -14,8 +14,9 @@ use Rattle.job_format.specs.declared.Sizes.{Sizes}
 use Rattle.job_format.specs.declared.Fault.{Fault}
 use Rattle.job_format.specs.declared.Zeros.{Zeros}
 use Rattle.job_format.specs.declared.Zeros.the-variants.{Kept}
-use Rattle.job_format.specs.Reading.{Parsed, fault, found, andThen, require, malformed, field, bounded, values}
+use Rattle.job_format.specs.Reading.{Parsed, fault, found, malformed, field, bounded, values}
 use Rattle.job_format.specs.Format.{Contents, InBounds, mapBytes, mapBit, padded, presentIn, readSizes, readMap, readValues, readContents, readJob}
+use Rattle.job_format.proofs.Fields.{then-found, require-found}
 
 -- ---- lengths: at most 2,080 entries and 1,024 right-side values
 
@@ -99,42 +100,27 @@ module _ (file : List ℕ) where
 
 bounded-found : (file : List ℕ) (at width low high v next : ℕ) → bounded file at width low high ≡ found v next → (low ≤ v) × (v ≤ high)
 unfolding bounded
-bounded-found file at width low high v next e = go (field file at width) e
+bounded-found file at width low high v next e =
+    let (x, y, p, q) = then-found (field file at width) _ v next e in
+    let (t, r) = require-found (leb low x && leb x high) (malformed at) (found x y) v next q in
+    let s : x ≡ v = cc in
+    in-range x s (leb low x) (leb x high) refl refl t
   where
-    in-range : (x y : ℕ) (a b : Bool) → leb low x ≡ a → leb x high ≡ b → require (a && b) (malformed at) (found x y) ≡ found v next → (low ≤ v) × (v ≤ high)
-    in-range x y true true p q f = let s : x ≡ v = cc in (omega (arith, leb-true low x p), omega (arith, leb-true x high q))
-    in-range x y true false p q f = let z : _≡_ {A = ℕ} 0 1 = cc in absurd (omega arith)
-    in-range x y false b p q f = let z : _≡_ {A = ℕ} 0 1 = cc in absurd (omega arith)
-
-    go : (p : Parsed ℕ) → andThen p (λ x y. require (leb low x && leb x high) (malformed at) (found x y)) ≡ found v next → (low ≤ v) × (v ≤ high)
-    go (fault q) f = let z : _≡_ {A = ℕ} 0 1 = cc in absurd (omega arith)
-    go (found x y) f = in-range x y (leb low x) (leb x high) refl refl f
+    in-range : (x : ℕ) → x ≡ v → (a b : Bool) → leb low x ≡ a → leb x high ≡ b → a && b ≡ true → (low ≤ v) × (v ≤ high)
+    in-range x s true true p q t = (omega (arith, leb-true low x p), omega (arith, leb-true x high q))
+    in-range x s true false p q t = let z : _≡_ {A = ℕ} 0 1 = cc in absurd (omega arith)
+    in-range x s false b p q t = let z : _≡_ {A = ℕ} 0 1 = cc in absurd (omega arith)
 
 pub sizes-bounds : (file : List ℕ) (sizes : Sizes) (at : ℕ) → readSizes file ≡ found sizes at → InBounds sizes
 unfolding readSizes
-sizes-bounds file sizes at e = go1 (bounded file 0 2 0 64) refl e
-  where
-    go3 :
-        (n b : ℕ) → n ≤ 64 → 1 ≤ b → b ≤ 200 → (next : ℕ) (p : Parsed ℕ) → bounded file next 1 0 16 ≡ p →
-        andThen p (λ m at. found (record { order = n; block = b; count = m }) at) ≡ found sizes at → InBounds sizes
-    go3 n b h l k next (fault q) e f = let z : _≡_ {A = ℕ} 0 1 = cc in absurd (omega arith)
-    go3 n b h l k next (found m y) e f =
-        let s : record { order = n; block = b; count = m } ≡ sizes = cc in
-        subst InBounds s (record { order = h; blockLow = l; blockHigh = k; count = bounded-found file next 1 0 16 m y e .1 })
-
-    go2 :
-        (n : ℕ) → n ≤ 64 → (next : ℕ) (p : Parsed ℕ) → bounded file next 2 1 200 ≡ p →
-        andThen p (λ b at. andThen (bounded file at 1 0 16) (λ m at. found (record { order = n; block = b; count = m }) at)) ≡ found sizes at → InBounds sizes
-    go2 n h next (fault q) e f = let z : _≡_ {A = ℕ} 0 1 = cc in absurd (omega arith)
-    go2 n h next (found b y) e f =
-        let r = bounded-found file next 2 1 200 b y e in go3 n b h (r .0) (r .1) y (bounded file y 1 0 16) refl f
-
-    go1 :
-        (p : Parsed ℕ) → bounded file 0 2 0 64 ≡ p →
-        andThen p (λ n at. andThen (bounded file at 2 1 200) (λ b at. andThen (bounded file at 1 0 16) (λ m at. found (record { order = n; block = b; count = m }) at))) ≡ found sizes at →
-        InBounds sizes
-    go1 (fault q) e f = let z : _≡_ {A = ℕ} 0 1 = cc in absurd (omega arith)
-    go1 (found n y) e f = go2 n (bounded-found file 0 2 0 64 n y e .1) y (bounded file y 2 1 200) refl f
+sizes-bounds file sizes at e =
+    let (n, i, a, e1) = then-found (bounded file 0 2 0 64) _ sizes at e in
+    let (b, j, c, e2) = then-found (bounded file i 2 1 200) _ sizes at e1 in
+    let (m, k, d, e3) = then-found (bounded file j 1 0 16) _ sizes at e2 in
+    let is : record { order = n; block = b; count = m } ≡ sizes = cc in
+    let block = bounded-found file i 2 1 200 b j c in
+    subst InBounds is
+    (record { order = bounded-found file 0 2 0 64 n i a .1; blockLow = block .0; blockHigh = block .1; count = bounded-found file j 1 0 16 m k d .1 })
 
 -- ---- the contents
 

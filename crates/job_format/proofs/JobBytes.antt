@@ -1,11 +1,11 @@
 -- Laws of specs/Rewriting.antt: the parts of a job's bytes, their lengths, and how loops write them. Assumes nothing.
-use Prim.Native.Nat.{ℕ, zero, suc, _+_, _*_, _/_, _≤_, _<_}
+use Prim.Native.Nat.{ℕ, _+_, _*_, _/_, _≤_}
 use native.Mathlib.Omega.{arith}
 use mathlib.Core.Path.{_≡_, refl, ap, subst}
 use mathlib.Core.Bool.{Bool, true, false}
-use mathlib.Core.List.{List, [], _∷_, _++_}
+use mathlib.Core.List.{List, [], _++_}
 use lib.ListN.{length, getD, drop, length-append}
-use Rattle.calls.specs.Sequences.{iterate, tabulate}
+use Rattle.calls.specs.Sequences.{tabulate}
 use Rattle.calls.proofs.Sequences.{length-tabulate}
 use Rattle.shape.specs.Places.{triangle}
 use Rattle.job_format.specs.declared.Sizes.{Sizes}

@@ -1,8 +1,8 @@
 -- A text that stands in a file at a position: its parts, and what is read there. Assumes nothing.
-use Prim.Native.Nat.{ℕ, zero, suc, _+_, _-_, _*_, _^_, _≤_, _<_}
+use Prim.Native.Nat.{ℕ, _+_, _^_, _≤_, _<_}
 use native.Mathlib.Omega.{arith}
 use mathlib.Core.Path.{_≡_, refl, sym, ap, _∙_}
-use mathlib.Core.List.{List, [], _∷_, _++_}
+use mathlib.Core.List.{List, _++_}
 use lib.Dec.{T}
 use lib.ListN.{length, getD, take, drop, length-append, length-take, length-drop}
 use lib.Pow.{areBytes}
@@ -22,9 +22,6 @@ pub holds-whole : (file text : List ℕ) → Holds file 0 text → length text �
 holds-whole file text h e = sym h ∙ take-all (length text) file (omega arith)
 
 module _ (file : List ℕ) (at : ℕ) where
-  pub holds-none : Holds file at []
-  holds-none = refl
-
   -- one text after another
   module _ (a b : List ℕ) where
     both : take (length (a ++ b)) (drop at file) ≡ take (length a) (drop at file) ++ take (length b) (drop (at + length a) file)

@@ -1,6 +1,5 @@
 -- What was read, from the fact that it was found: each field, the bounds of the contents, and how the present rules differ from the former ones. Assumes nothing.
-use Prim.Native.Nat.{ℕ, zero, suc, _+_, _-_, _*_, _/_, _%_, _^_, _≤_, _<_}
-use native.Mathlib.Numerals.{add-one}
+use Prim.Native.Nat.{ℕ, zero, suc, _+_, _-_, _*_, _^_, _≤_, _<_}
 use native.Mathlib.Omega.{arith}
 use native.Mathlib.Decide.{decLt}
 use mathlib.Core.Path.{_≡_, refl, sym, ap, _∙_, subst}
@@ -11,7 +10,7 @@ use lib.Dec.{T, leb, eqb}
 use lib.ListN.{length, getD, take, drop, length-append, List·getD-append}
 use lib.Pow.{areBytes}
 use lib.Seq.{getD-at}
-use borrow.Author.Tests.{leb-true, leb-false, eqb-true}
+use borrow.Author.Tests.{leb-true, eqb-true}
 use Rattle.shape.specs.Places.{triangle}
 use Rattle.job_format.specs.declared.Fault.{Fault}
 use Rattle.job_format.specs.declared.Sizes.{Sizes}
@@ -20,24 +19,9 @@ use Rattle.job_format.specs.declared.Zeros.the-variants.{Kept, Needless}
 use Rattle.job_format.specs.Reading.{Parsed, fault, found, andThen, require, malformed, needlessZero, littleEndian, field, bounded, needless, value, values}
 use Rattle.job_format.specs.Format.{Contents, InBounds, mapBytes, mapBit, padded, readSizes, readMap, readValues, readContents, readJob}
 use Rattle.job_format.specs.Rewriting.{jobBytes, written, rewritten, RefusedBy13, OnlyNeedlessZeros}
-use Rattle.job_format.proofs.Fields.{field-there, field-short}
+use Rattle.job_format.proofs.Fields.{fault-found, then-found, require-found}
 use Rattle.job_format.proofs.Formats.{sizes-bounds}
 use Rattle.job_format.proofs.Parts.{field-below}
-
--- ---- steps
-
-fault-found : {A B : Type 0} {f : Fault} {a : A} {at : ℕ} → fault f ≡ found a at → B
-fault-found e = let z : _≡_ {A = ℕ} 0 1 = cc in absurd (omega arith)
-
-pub then-found :
-    {A B : Type 0} (p : Parsed A) (rest : A → ℕ → Parsed B) (b : B) (end : ℕ) → andThen p rest ≡ found b end →
-    (a : A) × (at : ℕ) × (p ≡ found a at) × (rest a at ≡ found b end)
-then-found (fault f) rest b end e = fault-found e
-then-found (found a at) rest b end e = (a, at, refl, e)
-
-pub require-found : {A : Type 0} (t : Bool) (f : Fault) (p : Parsed A) (b : A) (end : ℕ) → require t f p ≡ found b end → (t ≡ true) × (p ≡ found b end)
-require-found true f p b end e = (refl, e)
-require-found false f p b end e = fault-found e
 
 -- ---- fields
 

@@ -1,7 +1,6 @@
 -- `job::list_read` meets its contract. The memory has room for every job within the bounds. Assumes nothing.
 use Prim.Native.Nat.{_≤_}
 use native.Mathlib.Omega.{arith}
-use mathlib.Core.Path.{_≡_, refl, sym, _∙_}
 use lib.ListN.{length}
 use lib.Ieee.{binary64, ofBits}
 use borrow.Author.Needs.{needs}

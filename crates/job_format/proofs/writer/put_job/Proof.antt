@@ -1,7 +1,7 @@
 -- `job_format::writer::put_job` meets its contract. The sizes, the map, the entries and the right-hand sides one after another, which have room. Assumes nothing.
 use native.Mathlib.Omega.{arith}
 use borrow.Author.Needs.{needs}
-use Rattle.job_format.specs.declared.Zeros.the-variants.{Kept, Needless}
+use Rattle.job_format.specs.declared.Zeros.the-variants.{Needless}
 use Rattle.job_format.specs.Rewriting.{jobBytes}
 use Rattle.job_format.proofs.Texts.{then}
 use Rattle.job_format.proofs.JobBytes.{length-sizes, length-map, length-values, entries-few, values-few, length-front, length-mapped}

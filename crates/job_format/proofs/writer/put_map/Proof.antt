@@ -1,11 +1,9 @@
 -- `job_format::writer::put_map` meets its contract. The loop's invariant: the first i bytes of the map are written. Assumes nothing.
-use Prim.Native.Nat.{_+_, _*_, _-_, _/_, _≤_}
+use Prim.Native.Nat.{_+_, _*_, _-_, _≤_}
 use native.Mathlib.Omega.{arith}
-use borrow.Author.Needs.{needs}
 use mathlib.Core.Path.{_≡_, refl, _∙_}
 use lib.ListN.{length}
 use Rattle.calls.specs.Sequences.{tabulate}
-use Rattle.calls.proofs.Sequences.{length-tabulate}
 use Rattle.job_format.specs.Writing.{Written}
 use Rattle.job_format.proofs.Texts.{as-text, tabulated-none, tabulated-turn}
 use Rattle.job_format.proofs.JobBytes.{mapByte, map-all}

@@ -1,7 +1,6 @@
 -- `job_format::writer::put_values` meets its contract. The loop's invariant: the bytes of the first k values are written. Assumes nothing.
 use Prim.Native.Nat.{_-_, _≤_}
 use native.Mathlib.Omega.{arith}
-use borrow.Author.Needs.{needs}
 use mathlib.Core.Path.{_≡_, refl, _∙_}
 use lib.ListN.{length, getD}
 use Rattle.job_format.specs.Writing.{Written}
