@@ -85,6 +85,7 @@ class Program:
         name = os.path.basename(self.launcher)
         self.ended(f"{name}, a folder as FILE", [self.launcher, top], 1, unread, stdout=subprocess.PIPE)
         self.ended(f"{name}, no such FILE", [self.launcher, os.path.join(examples, "none.job")], 1, None, stdout=subprocess.PIPE)
+        self.ended(f"{name}, two FILEs", [self.launcher, job, job], 1, f"{name}: one FILE, or standard input\n".encode(), stdout=subprocess.PIPE)
         self.ended(f"{name}, standard input closed", ["bash", "-c", '"$0" <&-', self.launcher], 1, None, stdout=subprocess.PIPE)
         self.ended(f"{name}, standard output closed", ["bash", "-c", '"$0" "$1" >&-', self.launcher, job], 1, None)
         self.ended(f"{name}, the program ended by a signal (SIGPIPE)", [self.launcher, job], 128 + 13, b"", stdout=nobody)

@@ -52,7 +52,10 @@ formerListing file = formerListed (formerReadJob file)
 
 pub record AsBefore (file : List ℕ) : Type 0 where
   pub acceptedAs : (job : Contents) (at : ℕ) → readJob Needless file ≡ found job at → listing file ≡ formerListing file
-  pub changed : (listing file ≡ formerListing file) ⊎ ((n b m place : ℕ) × (readJob Needless file ≡ fault (needlessZero place)) × (listing file ≡ jobLine n b m ++ endLine 18 place))
+  pub changed :
+      (listing file ≡ formerListing file)
+      ⊎ ((sizes : Sizes) × (at place : ℕ) × (readSizes file ≡ found sizes at) × (readJob Needless file ≡ fault (needlessZero place))
+      × (listing file ≡ jobLine (sizes .order) (sizes .block) (sizes .count) ++ endLine 18 place))
 
 -- ---- the former reading is the one that keeps zeros, its values by their bits
 
@@ -139,15 +142,17 @@ module _ (file : List ℕ) where
   same-listing same = listed-alike (readSizes file) (sizes-13 file) same ∙ ap formerListed (sym job-onto)
 
   -- a needless zero is met after the sizes, so it is listed with them
-  needless-listing : (place : ℕ) → readJob Needless file ≡ fault (needlessZero place) → (n b m : ℕ) × (listing file ≡ jobLine n b m ++ endLine 18 place)
+  needless-listing :
+      (place : ℕ) → readJob Needless file ≡ fault (needlessZero place) →
+      (sizes : Sizes) × (at : ℕ) × (readSizes file ≡ found sizes at) × (listing file ≡ jobLine (sizes .order) (sizes .block) (sizes .count) ++ endLine 18 place)
   unfolding listing readJob faultLines
   needless-listing place e = go (readSizes file) (sizes-13 file) e
     where
       go :
           (p : Parsed Sizes) → Under13 p → andThen p (λ sizes at. readContents Needless file sizes at) ≡ fault (needlessZero place) →
-          (n b m : ℕ) × (listedFrom file p ≡ jobLine n b m ++ endLine 18 place)
+          (sizes : Sizes) × (at : ℕ) × (p ≡ found sizes at) × (listedFrom file p ≡ jobLine (sizes .order) (sizes .block) (sizes .count) ++ endLine 18 place)
       go (fault f) h x = let z : f ≡ needlessZero place = cc in absurd (omega (arith, ap (λ (y : Fault). y .code) z, h))
-      go (found sizes at) h x = (sizes .order, sizes .block, sizes .count, ap (listed sizes) x)
+      go (found sizes at) h x = (sizes, at, refl, ap (listed sizes) x)
 
 pub as-before : (file : List ℕ) → AsBefore file
 as-before file =
@@ -161,6 +166,6 @@ as-before file =
       changed =
           elim (only-needless-zeros file) [
             | inl same ↦ inl (same-listing file same)
-            | inr x ↦ (let (n, b, m, l) = needless-listing file (x .0) (x .1) in inr (n, b, m, x .0, x .1, l))
+            | inr x ↦ (let (sizes, at, e, l) = needless-listing file (x .0) (x .1) in inr (sizes, at, x .0, e, x .1, l))
           ];
     }

@@ -21,7 +21,7 @@ use Rattle.job_format.specs.declared.Zeros.{Zeros}
 use Rattle.job_format.specs.declared.Zeros.the-variants.{Kept, Needless}
 use Rattle.job_format.specs.Reading.{found, field, bounded, needless, value, values}
 use Rattle.job_format.specs.Format.{Contents, InBounds, mapBytes, mapBit, padded, readSizes, readMap, readJob}
-use Rattle.job_format.specs.Rewriting.{bytesOf, sizesBytes, stands, mapOf, valueBytes, valuesBytes, jobBytes, written, rewritten, SameBytes, ReadsBack, GivesBack}
+use Rattle.job_format.specs.Rewriting.{bytesOf, sizesBytes, stands, mapOf, valueBytes, valuesBytes, jobBytes, written, rewritten, SameBytes, ReadsBack, GivesBack, WrittenIsRead}
 use Rattle.job_format.proofs.Fields.{then-found, bounded-in, value-absent, value-read}
 use Rattle.job_format.proofs.Formats.{map-whole, map-padded, sizes-found, contents-found, contents-mapped, job-contents}
 use Rattle.job_format.proofs.Digits.{length-bytes, bytes-at, bit, bits-at, bits-number, bits-short}
@@ -368,6 +368,10 @@ module _ (job : Contents) (b : Bounded job) where
       ∙ job-contents Needless file (job .sizes) 5 h
 
 -- ---- the statements
+
+pub written-is-read : WrittenIsRead
+written-is-read job inside entries values matrix rhs =
+    sym (written-read job (record { sized = record { sizes = inside; entries = entries; values = values }; matrix = matrix; rhs = rhs }))
 
 pub same-bytes : SameBytes
 same-bytes file file′ bytes bytes′ job job′ at at′ e e′ = (

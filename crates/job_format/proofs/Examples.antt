@@ -75,17 +75,20 @@ table =
     row (file 2 7 0 (0x07 ∷ []) (5 ∷ 6 ∷ 0 ∷ [])) (becomes (file 2 7 0 (0x03 ∷ []) (5 ∷ 6 ∷ []))) ∷
     row (file 4 2 0 (0x81 ∷ 0x03 ∷ []) (1 ∷ 2 ∷ 0 ∷ 4 ∷ [])) (becomes (file 4 2 0 (0x81 ∷ 0x02 ∷ []) (1 ∷ 2 ∷ 4 ∷ []))) ∷
     row (file 20 1 0 (0x03 ∷ replicate 25 0 ++ (0x02 ∷ [])) (0 ∷ 9 ∷ 0 ∷ [])) (becomes (file 20 1 0 (0x02 ∷ replicate 26 0) (9 ∷ []))) ∷
+    -- a map of whole bytes has no padding
+    row (file 15 1 0 (replicate 14 0 ++ (0x80 ∷ [])) (1 ∷ [])) (becomes (file 15 1 0 (replicate 14 0 ++ (0x80 ∷ [])) (1 ∷ []))) ∷
     -- −0, subnormals, infinities and NaNs with their payloads are kept, and so are right sides of +0
     row (file 2 1 0 (0x07 ∷ []) (0x8000_0000_0000_0000 ∷ 0x0000_0000_0000_0001 ∷ 0x800f_ffff_ffff_ffff ∷ []))
     (becomes (file 2 1 0 (0x07 ∷ []) (0x8000_0000_0000_0000 ∷ 0x0000_0000_0000_0001 ∷ 0x800f_ffff_ffff_ffff ∷ []))) ∷
     row (file 2 1 1 (0x07 ∷ []) (0x7ff0_0000_0000_0001 ∷ 0 ∷ 0xfff8_dead_beef_0000 ∷ 0 ∷ 0x7ff0_0000_0000_0000 ∷ []))
     (becomes (file 2 1 1 (0x05 ∷ []) (0x7ff0_0000_0000_0001 ∷ 0xfff8_dead_beef_0000 ∷ 0 ∷ 0x7ff0_0000_0000_0000 ∷ []))) ∷
     row (file 1 200 16 (0x01 ∷ []) (0x4010_0000_0000_0000 ∷ replicate 16 0)) (becomes (file 1 200 16 (0x01 ∷ []) (0x4010_0000_0000_0000 ∷ replicate 16 0))) ∷
-    -- 13: sizes, padding, files that end early or late, behind a needless zero too
+    -- 13: sizes, a part of a map, padding, files that end early or late, behind a needless zero too
     row [] (malformed 0) ∷
     row (file 65 1 0 [] []) (malformed 0) ∷
     row (file 1 0 0 (0x01 ∷ []) (0 ∷ [])) (malformed 2) ∷
     row (file 1 1 17 (0x01 ∷ []) (0 ∷ [])) (malformed 4) ∷
+    row (file 4 2 0 (0x91 ∷ []) []) (malformed 6) ∷
     row (file 1 1 0 (0x03 ∷ []) (0 ∷ 0 ∷ [])) (malformed 5) ∷
     row (take 77 job) (malformed 77) ∷
     row (job ++ (0 ∷ [])) (malformed 78) ∷

@@ -286,6 +286,6 @@ refused-by-13 file f e =
     go (andThen (readSizes file) (λ sizes at. readContents Kept file sizes at))
     (then-13 (readSizes file) _ (sizes-13 file) (λ sizes at. contents-13 file sizes at)) e
   where
-    go : (p : Parsed Contents) → Under13 p → andThen p (λ job at. found (jobBytes job) (length (jobBytes job))) ≡ fault f → f .code ≡ 13
-    go (fault x) h q = let z : x ≡ f = cc in ap (λ (y : Fault). y .code) (sym z) ∙ h
+    go : (p : Parsed Contents) → Under13 p → andThen p (λ job at. found (jobBytes job) (length (jobBytes job))) ≡ fault f → (p ≡ fault f) × (f .code ≡ 13)
+    go (fault x) h q = let z : x ≡ f = cc in (ap fault z, ap (λ (y : Fault). y .code) (sym z) ∙ h)
     go (found job at) h q = let z : _≡_ {A = ℕ} 0 1 = cc in absurd (omega arith)

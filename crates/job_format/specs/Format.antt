@@ -72,7 +72,7 @@ readValues zeros file sizes at =
 unfoldable pub readContents : Zeros → List ℕ → Sizes → ℕ → Parsed Contents
 readContents zeros file sizes at = andThen (readMap file (sizes .order) at) (λ _ at. readValues zeros file sizes at)
 
--- One field after another. The first fault decides; a short file is seen only when the missing field is due.
+-- One field after another. The first fault decides; a short file is seen only when the missing field is due. Kept gives the former rules, Needless the present ones.
 unfoldable pub readJob : Zeros → List ℕ → Parsed Contents
 readJob zeros file = andThen (readSizes file) (λ sizes at. readContents zeros file sizes at)
 

@@ -1,5 +1,5 @@
 -- Request (i) of document 02: a job's bytes from its contents, with no bit over +0; what rewriting a stored job gives; and what holds of both.
-use Prim.Native.Nat.{ℕ, zero, suc, _+_, _*_, _/_, _%_}
+use Prim.Native.Nat.{ℕ, zero, suc, _+_, _*_, _/_, _%_, _^_, _<_}
 use mathlib.Core.Bool.{Bool, cond, not}
 use mathlib.Core.List.{List, [], _∷_, _++_}
 use mathlib.Core.Logic.{_⊎_}
@@ -7,6 +7,7 @@ use mathlib.Core.Path.{_≡_}
 use lib.Dec.{T, eqb}
 use lib.ListN.{length, getD}
 use lib.Pow.{areBytes}
+use Rattle.shape.specs.Places.{triangle}
 use Rattle.calls.specs.Sequences.{iterate, tabulate}
 use Rattle.job_format.specs.declared.Fault.{Fault}
 use Rattle.job_format.specs.declared.Sizes.{Sizes}
@@ -15,7 +16,7 @@ use Rattle.job_format.specs.declared.Zeros.the-variants.{Kept, Needless}
 use Rattle.job_format.specs.declared.Rewritten.{Rewritten}
 use Rattle.job_format.specs.declared.Rewritten.the-variants as Rewritten
 use Rattle.job_format.specs.Reading.{Parsed, fault, found, andThen, needless, needlessZero}
-use Rattle.job_format.specs.Format.{Contents, readJob}
+use Rattle.job_format.specs.Format.{Contents, InBounds, readJob}
 use Rattle.job_format.specs.Writing.{overwrite}
 
 -- ---- a job from its contents
@@ -56,7 +57,7 @@ jobBytes job = sizesBytes (job .sizes) ++ mapOf (job .matrix) ++ valuesBytes Nee
 abbrev pub maxJob : ℕ
 maxJob = 25097
 
--- the bytes of what was read, or its fault
+-- the bytes of what was read, with their number for the position, or its fault
 unfoldable pub written : Parsed Contents → Parsed (List ℕ)
 written read = andThen read (λ job at. found (jobBytes job) (length (jobBytes job)))
 
@@ -96,9 +97,16 @@ ReadsBack =
 abbrev pub GivesBack : Type 0
 GivesBack = (file : List ℕ) (job : Contents) (at : ℕ) → T (areBytes file) → readJob Needless file ≡ found job at → rewritten file ≡ found file (length file)
 
--- A job that yields nothing is refused under 13.
+-- What yields nothing is what the former rules refuse, with their fault, which is one under 13.
 abbrev pub RefusedBy13 : Type 0
-RefusedBy13 = (file : List ℕ) (f : Fault) → rewritten file ≡ fault f → f .code ≡ 13
+RefusedBy13 = (file : List ℕ) (f : Fault) → rewritten file ≡ fault f → (readJob Kept file ≡ fault f) × (f .code ≡ 13)
+
+-- Contents of any sizes within the bounds and any bits have a job.
+abbrev pub WrittenIsRead : Type 0
+WrittenIsRead =
+    (job : Contents) → InBounds (job .sizes) → length (job .matrix) ≡ triangle (job .sizes .order) → length (job .rhs) ≡ job .sizes .order * job .sizes .count →
+    ((p : ℕ) → p < length (job .matrix) → getD (job .matrix) p 0 < 2 ^ 64) → ((p : ℕ) → p < length (job .rhs) → getD (job .rhs) p 0 < 2 ^ 64) →
+    readJob Needless (jobBytes job) ≡ found job (length (jobBytes job))
 
 -- The present rules read as the former ones did, or meet a needless zero.
 abbrev pub OnlyNeedlessZeros : Type 0

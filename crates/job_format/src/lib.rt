@@ -74,7 +74,7 @@ pub const MAX_ENTRIES: usize = MAX_ORDER * (MAX_ORDER + 1) / 2;
 
 pub const MAX_VALUES: usize = MAX_ORDER * MAX_RHS;
 
-pub const MAX_JOB: usize = 25097;
+pub const MAX_JOB: usize = 5 + (MAX_ENTRIES + 7) / 8 + 8 * MAX_ENTRIES + 8 * MAX_VALUES;
 
 fn rewrite_values(
     file: &[u8],
