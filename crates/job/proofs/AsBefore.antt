@@ -1,13 +1,14 @@
--- What the present reader accepts has the listing that it had, and a listing that changed is one of code 18. The former definitions stand on the other side of
--- each equation. Assumes nothing.
+-- What the present reader accepts has the listing that it had, a listing that changed is one of code 18, and a rewritten job has the listing that its input had. The
+-- former definitions stand on the other side of each equation. Assumes nothing.
 use Prim.Native.Nat.{ℕ, zero, suc, _+_, _*_}
 use native.Mathlib.Omega.{arith}
 use mathlib.Core.Path.{_≡_, refl, sym, ap, _∙_}
 use mathlib.Core.Logic.{_⊎_, inl, inr}
 use mathlib.Core.Bool.{Bool, true, false, cond, not}
 use mathlib.Core.List.{List, [], _∷_, _++_, map-append}
-use lib.Dec.{eqb}
+use lib.Dec.{T, eqb}
 use lib.ListN.{length}
+use lib.Pow.{areBytes}
 use lib.Ieee.{Float, binary64, ofBits}
 use borrow.Author.Tests.{eq-eqb}
 use Rattle.binary64.specs.Kinds.{zero64}
@@ -17,7 +18,9 @@ use Rattle.job_format.specs.declared.Sizes.{Sizes}
 use Rattle.job_format.specs.declared.Zeros.the-variants.{Kept, Needless}
 use Rattle.job_format.specs.Reading.{Parsed, fault, found, andThen, require, malformed, needlessZero, field, needless, value, values}
 use Rattle.job_format.specs.Format.{Contents, mapBit, readSizes, readMap, readValues, readContents, readJob}
-use Rattle.job_format.proofs.Readings.{Under13, sizes-13, contents-13, only-needless-zeros}
+use Rattle.job_format.specs.Rewriting.{rewritten}
+use Rattle.job_format.proofs.Canonical.{reads-back}
+use Rattle.job_format.proofs.Readings.{Under13, sizes-13, contents-13, only-needless-zeros, read-formerly}
 use Rattle.job.specs.Listing.{Job, floats, jobOf, jobLine, endLine, faultLines, listingOf, listed, listedFrom, listing}
 
 -- ---- the former definitions: values were read as such, and a standing bit over +0 was no fault; every fault was listed as 13
@@ -169,3 +172,14 @@ as-before file =
             | inr x ↦ (let (sizes, at, e, l) = needless-listing file (x .0) (x .1) in inr (sizes, at, x .0, e, x .1, l))
           ];
     }
+
+-- ---- rewriting keeps the listing
+
+former-found : (file : List ℕ) (job : Contents) (at : ℕ) → readJob Kept file ≡ found job at → formerListing file ≡ listingOf (jobOf job)
+unfolding formerListing formerListed
+former-found file job at e = ap formerListed (job-onto file ∙ ap (onto jobOf) e)
+
+pub rewritten-listing : (file text : List ℕ) (end : ℕ) → T (areBytes file) → rewritten file ≡ found text end → listing text ≡ formerListing file
+rewritten-listing file text end bytes e =
+    let (job, at, p, q) = reads-back file text end bytes e in
+    as-before text .acceptedAs job end q ∙ former-found text job end (read-formerly text job end q) ∙ sym (former-found file job at p)
