@@ -1,4 +1,6 @@
 // Every system of order 0 to 3 whose packed entries are whole numbers from −2 to 2, run on both pipelines, and the listing of how many gave which code.
+#![tactic(auto)]
+
 ghost use Rattle.std.specs.Prelude.{◌≡◌, cond, ◌∷◌, ◌+◌, ◌*◌, ◌^◌, ◌≤◌, ◌<◌, eqb, length};
 ghost use Rattle.std.specs.Float.{binary64};
 ghost use Rattle.std.specs.Float.Ieee.{of_int};
@@ -32,14 +34,14 @@ const LINE: usize = 2 + 21 * NUMBERS;
 pub const LISTING: usize = (MAX_ORDER + 1) * RUNS * LINE;
 
 // The pipeline that a system is run on; the blocked one with its block length.
-#[derive(Drop)]
+#[derive(Clone, Copy)]
 pub enum Run {
     Plain,
     Blocked(usize),
 }
 
 // How many systems gave 0, 10, 11 and 16.
-#[derive(Drop)]
+#[derive(Clone, Copy)]
 pub struct Counts {
     pub accepted: usize,
     pub nonpositive: usize,

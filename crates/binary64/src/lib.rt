@@ -1,4 +1,6 @@
 // Binary64 values: their kinds, the square root and the judgement of a pivot.
+#![tactic(auto)]
+
 mod kinds;
 mod root;
 
@@ -10,14 +12,14 @@ ghost use Rattle.binary64.specs.Judged.{judged};
 pub use kinds::{Kind, kind_of, kind_of_bits};
 
 // A root, and whether its square is the argument exactly.
-#[derive(Drop)]
+#[derive(Clone, Copy)]
 pub struct SquareRoot {
     pub value: f64,
     pub exact: bool,
 }
 
 // What a pivot is judged to: its root and whether that is exact, or its refused value.
-#[derive(Drop)]
+#[derive(Clone, Copy)]
 pub enum Pivot {
     Root(f64, bool),
     Refused(f64),

@@ -5,21 +5,21 @@ ghost use Rattle.binary64.specs.RootSteps.{PositiveFinite, Normalised, IntegerRo
 use crate::kinds::{HIDDEN_BIT, Kind, kind_of_bits};
 
 // significand · 2^exponent, with a significand of 53 binary digits
-#[derive(Drop)]
+#[derive(Clone, Copy)]
 pub struct Scaled {
     pub significand: u64,
     pub exponent: u64,
 }
 
 // a whole number's root, rounded down, and what its square leaves
-#[derive(Drop)]
+#[derive(Clone, Copy)]
 pub struct Floor {
     pub root: u64,
     pub remainder: u64,
 }
 
 // the root's bit pattern, and whether its square is the argument exactly
-#[derive(Drop)]
+#[derive(Clone, Copy)]
 pub struct Found {
     pub bits: u64,
     pub exact: bool,

@@ -10,7 +10,7 @@ use kernels::{minus_products, pack_lane, update_part16, update16};
 use shape::{Shape, least};
 
 // Where a block column starts in a memory, its columns and its rows.
-#[derive(Drop)]
+#[derive(Clone, Copy)]
 pub struct BlockColumn {
     pub start: usize,
     pub width: usize,

@@ -1,4 +1,6 @@
 // What the calls share: the layouts, the kinds of calls, a rule's verdict, a factor's judgement and a call's result. The states are in states.rt.
+#![tactic(auto)]
+
 ghost use Rattle.std.specs.Prelude.{◌≡◌};
 ghost use Rattle.binary64.specs.Kinds.{zero64};
 ghost use Rattle.calls.specs.Refusals as Refusals;
@@ -12,14 +14,14 @@ use states::{State, given_by, state_number};
 pub use states::{next, suits};
 
 // Where the entries of a matrix are kept. The plain calls work on packed memory, the blocked ones on blocked memory.
-#[derive(Drop)]
+#[derive(Clone, Copy)]
 pub enum Layout {
     Packed,
     Blocked,
 }
 
 // A rearranger moves a matrix from one layout to another, a converter from one memory to another; the last one strikes unknowns from a matrix.
-#[derive(Drop)]
+#[derive(Clone, Copy)]
 pub enum Call {
     Rearranger(Layout, Layout),
     Factor(Layout),
@@ -30,14 +32,14 @@ pub enum Call {
 }
 
 // Between packed memory and rectangular full packed memory.
-#[derive(Drop)]
+#[derive(Clone, Copy)]
 pub enum Conversion {
     PackedToRfp,
     RfpToPacked,
 }
 
 // What the rules answer: a code, a place and a value, which are 0, 0 and +0 where none refuses; the answer of a variance call has its value there.
-#[derive(Drop)]
+#[derive(Clone, Copy)]
 pub struct Verdict {
     pub code: usize,
     pub place: usize,
@@ -45,7 +47,7 @@ pub struct Verdict {
 }
 
 // What a factor's columns are judged to so far: the verdict, and whether all are accepted and every root is exact.
-#[derive(Drop)]
+#[derive(Clone, Copy)]
 pub struct Judgement {
     pub verdict: Verdict,
     pub exact: bool,
@@ -53,7 +55,7 @@ pub struct Judgement {
 
 // What a call returns, with the shape for the next call.
 #[repr(C)]
-#[derive(Drop)]
+#[derive(Clone, Copy)]
 pub struct CallResult {
     pub code: usize,
     pub place: usize,

@@ -6,7 +6,7 @@ ghost use Rattle.calls.specs.States.{state_number, look_up, given_by};
 use crate::{Call, Layout};
 
 // A raw matrix or a factor in a layout, or neither.
-#[derive(Drop)]
+#[derive(Clone, Copy)]
 pub enum State {
     Raw(Layout),
     Factored(Layout),
@@ -14,7 +14,7 @@ pub enum State {
 }
 
 // What a call gives for the state that it finds, where it succeeds.
-#[derive(Drop)]
+#[derive(Clone, Copy)]
 pub enum Transition {
     Gives(State),
     Unsuited,

@@ -1,4 +1,6 @@
 // The rules in code: the checks before any work in rules.rt and a column's rules in columns.rt; here the loops that test and clear a part of memory.
+#![tactic(auto)]
+
 ghost use Rattle.std.specs.Prelude.{◌≡◌, ◌*◌, ◌≤◌, length, take, replicate};
 ghost use Rattle.binary64.specs.Kinds.{finite, zero64};
 ghost use Rattle.calls.specs.Sequences.{all};

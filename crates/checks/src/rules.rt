@@ -13,7 +13,7 @@ use calls::{Call, Layout, Verdict, accepted, refusal};
 use shape::Shape;
 
 // The values that rules 7 and 8 look at.
-#[derive(Drop)]
+#[derive(Clone, Copy)]
 pub enum Values {
     Matrix,
     Rhs,

@@ -1,4 +1,6 @@
 // The two converters: between packed memory and rectangular full packed memory of a form, through a second memory.
+#![tactic(auto)]
+
 ghost use Rattle.std.specs.Prelude.{◌≡◌, ◌≤◌};
 ghost use Rattle.calls.specs.declared.Conversion.TheVariants.{PackedToRfp, RfpToPacked};
 ghost use Rattle.calls.specs.Triangles.{transfer};

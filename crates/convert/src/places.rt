@@ -8,7 +8,7 @@ ghost use Rattle.convert.specs.Halves as Halves;
 use calls::Conversion;
 use shape::Shape;
 
-#[derive(Drop)]
+#[derive(Clone, Copy)]
 pub struct Ends {
     pub from: usize,
     pub to: usize,

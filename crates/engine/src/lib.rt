@@ -1,4 +1,6 @@
 // The engine: the eleven calls for other languages, and both pipelines with the promise that they agree.
+#![tactic(auto)]
+
 ghost use Rattle.calls.specs.declared.Layout.TheVariants.{Packed, Blocked};
 ghost use Rattle.calls.specs.declared.Conversion.TheVariants.{PackedToRfp, RfpToPacked};
 ghost use Rattle.calls.specs.Calls as Calls;

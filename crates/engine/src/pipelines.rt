@@ -7,7 +7,7 @@ use calls::CallResult;
 use shape::Shape;
 
 // The results of a pipeline's factor and solver, and the shape at its end. Where a call before the solver is refused, its result stands for those after it.
-#[derive(Drop)]
+#[derive(Clone, Copy)]
 pub struct PipelineResult {
     pub factor: CallResult,
     pub solver: CallResult,
@@ -15,7 +15,7 @@ pub struct PipelineResult {
 }
 
 // The results of both pipelines.
-#[derive(Drop)]
+#[derive(Clone, Copy)]
 pub struct BothResults {
     pub plain: PipelineResult,
     pub blocked: PipelineResult,

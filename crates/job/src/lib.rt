@@ -1,4 +1,6 @@
 // A job read from its bytes, and its listing.
+#![tactic(auto)]
+
 ghost use Rattle.std.specs.Prelude.{◌≡◌, ◌*◌, ◌≤◌, length};
 ghost use Rattle.shape.specs.Places.{triangle};
 ghost use Rattle.job_format.specs.declared.Zeros.TheVariants.{Needless};

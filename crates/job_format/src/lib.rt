@@ -1,4 +1,6 @@
 // A job's bytes: read field by field, written from the contents, and rewritten with no bit over +0. Values are bit patterns.
+#![tactic(auto)]
+
 ghost use Rattle.std.specs.Prelude.{◌≡◌, ◌*◌, ◌≤◌, length};
 ghost use Rattle.shape.specs.Places.{triangle};
 ghost use Rattle.job_format.specs.declared.Zeros.TheVariants.{Kept};
@@ -20,28 +22,28 @@ pub const MALFORMED: usize = 13;
 const NEEDLESS_ZERO: usize = 18;
 
 // A code and its place.
-#[derive(Drop)]
+#[derive(Clone, Copy)]
 pub struct Fault {
     pub code: usize,
     pub place: usize,
 }
 
 // A field's value and the position after it, or the fault.
-#[derive(Drop)]
+#[derive(Clone, Copy)]
 pub enum Field {
     Found(u64, usize),
     Fault(Fault),
 }
 
 // The position after what was read, or the fault.
-#[derive(Drop)]
+#[derive(Clone, Copy)]
 pub enum Step {
     Next(usize),
     Fault(Fault),
 }
 
 // The sizes that a job begins with.
-#[derive(Drop)]
+#[derive(Clone, Copy)]
 pub struct Sizes {
     pub order: usize,
     pub block: usize,
@@ -49,21 +51,21 @@ pub struct Sizes {
 }
 
 // The sizes and the position after them, or the fault.
-#[derive(Drop)]
+#[derive(Clone, Copy)]
 pub enum Head {
     Found(Sizes, usize),
     Fault(Fault),
 }
 
 // A +0 among values is kept as any other, or is needless: refused where it is read, left out where it is written.
-#[derive(Drop)]
+#[derive(Clone, Copy)]
 pub enum Zeros {
     Kept,
     Needless,
 }
 
 // The length of the rewritten job, or the fault of the stored one.
-#[derive(Drop)]
+#[derive(Clone, Copy)]
 pub enum Rewritten {
     Job(usize),
     Fault(Fault),

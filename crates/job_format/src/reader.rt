@@ -5,7 +5,7 @@ ghost use Rattle.job_format.specs.Reading.{little_endian, field, parsed_field};
 
 use crate::{Fault, Field, MALFORMED};
 
-#[derive(Drop)]
+#[derive(Clone, Copy)]
 pub struct Reader<'a> {
     pub src: &'a [u8],
     pub at: usize,

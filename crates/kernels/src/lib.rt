@@ -1,6 +1,8 @@
 // Loops over values: copies, and products subtracted one by one, for one value or for 8 at once, which are independent, so that the machine works on
 // several while each keeps its order. For 16 see lanes.rt; tiles.rt and columns.rt know besides where blocked order keeps a row, and
 // `packed_places8` where packed order does.
+#![tactic(auto)]
+
 ghost use Rattle.std.specs.Prelude.{◌≡◌, ℕ, ◌+◌, ◌≤◌, ◌<◌, length, get_or, set};
 ghost use Rattle.std.specs.Float.{nan, binary64};
 ghost use Rattle.std.specs.Float.Ieee.{sub, mul, div};

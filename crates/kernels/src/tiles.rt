@@ -89,7 +89,7 @@ pub fn reduce_block(
 
 // Several block columns of `block` columns each, `columns` in all: the first ones of a matrix of order `order` in blocked order, which begins at place
 // `start`. A diagonal block has `corner` values.
-#[derive(Drop)]
+#[derive(Clone, Copy)]
 pub struct Run {
     pub start: usize,
     pub order: usize,

@@ -1,5 +1,7 @@
 // The plain factor. A column is formed in the work memory and written to the matrix once it is accepted. Where there is room, the lower rows of the
 // column after it are reduced in the same pass over the matrix, and wait at the front of the work memory.
+#![tactic(auto)]
+
 ghost use Rattle.std.specs.Prelude.{◌≡◌, ◌+◌, ◌-◌, ◌%◌, ◌≤◌, ◌<◌, length, drop, replicate};
 ghost use Rattle.binary64.specs.Kinds.{zero64};
 ghost use Rattle.shape.specs.Bounds.{max_order};

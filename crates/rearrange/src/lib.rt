@@ -1,4 +1,6 @@
 // The two rearrangers. Block column by block column the values move through the work memory to their places in the other layout.
+#![tactic(auto)]
+
 ghost use Rattle.std.specs.Prelude.{◌≡◌, ◌≤◌, ◌<◌, length, replicate};
 ghost use Rattle.binary64.specs.Kinds.{zero64};
 ghost use Rattle.shape.specs.Bounds.{max_order, max_block};

@@ -1,6 +1,8 @@
 // Reads one stored job from standard input, under the rules before needless zeros were refused, and writes it without them to standard output. A job
 // refused under 13 gives no output: its code and place are told on standard error, and so is a failed read or write, all of which the launcher
 // rewrite-job turns into status 1.
+#![tactic(auto)]
+
 use input::read_input;
 use job_format::{MAX_JOB, Rewritten, rewrite};
 use libc::{STDERR_FILENO, STDOUT_FILENO};

@@ -1,5 +1,7 @@
 // Reads one job from standard input and writes its listing to standard output. A failed read or write, and nothing else, is told on standard
 // error, which the launcher run-job turns into status 1.
+#![tactic(auto)]
+
 use input::read_input;
 use job::LISTING;
 use job_format::MAX_JOB;

@@ -1,4 +1,6 @@
 // The shape of a matrix: its order and block length, with their bounds and the places of its entries, and the state of its memory.
+#![tactic(auto)]
+
 ghost use Rattle.std.specs.Prelude.{◌≡◌, ◌&&◌, ◌≤◌, ◌<◌, min, leb, ltb};
 ghost use Rattle.shape.specs.Bounds.{max_order, max_block, max_rhs};
 ghost use Rattle.shape.specs.Places.{triangle, packed_place, block_of, block_start, width, place_in_block, blocked_place, block_work, rfp_rows, rfp_columns, rfp_row, rfp_column, rfp_place};
@@ -6,7 +8,7 @@ ghost use Rattle.shape.specs.Layouts.{Entry};
 
 // Any numbers: the calls examine them. What a state's number means is said in crate calls.
 #[repr(C)]
-#[derive(Drop)]
+#[derive(Clone, Copy)]
 pub struct Shape {
     pub order: usize,
     pub block: usize,

@@ -1,5 +1,7 @@
 // Runs every small system on both pipelines and writes the counts of their codes to standard output. A failed write, and nothing else, is told on
 // standard error, which the launcher small-systems turns into status 1.
+#![tactic(auto)]
+
 use acceptance::LISTING;
 use libc::{STDERR_FILENO, STDOUT_FILENO};
 

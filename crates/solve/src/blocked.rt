@@ -16,7 +16,7 @@ use kernels::{
 use shape::Shape;
 
 // A block column without its first `skip` rows and columns: h rows and w columns are left, and the first w rows are their triangle.
-#[derive(Drop)]
+#[derive(Clone, Copy)]
 struct Trailing {
     skip: usize,
     h: usize,

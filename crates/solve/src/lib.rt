@@ -1,5 +1,7 @@
 // The two solvers: each right-hand side is solved in work memory by two substitutions, on a packed factor (plain) or on a blocked one. The substitutions
 // are public for the calls that need only a part of a solution.
+#![tactic(auto)]
+
 ghost use Rattle.calls.specs.declared.Layout.TheVariants.{Packed, Blocked};
 ghost use Rattle.calls.specs.Calls as Calls;
 ghost use Rattle.calls.specs.Calls.{SolvedAs};

@@ -1,4 +1,6 @@
 // Unknowns struck from a packed raw matrix, in its own memory.
+#![tactic(auto)]
+
 ghost use Rattle.std.specs.Prelude.{◌≡◌, ◌-◌, ◌≤◌, length, get_or, take};
 ghost use Rattle.shape.specs.Bounds.{max_order};
 ghost use Rattle.shape.specs.Places.{triangle};

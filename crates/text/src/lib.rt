@@ -1,4 +1,6 @@
 // Bytes, texts and decimal numbers written to a buffer at a position. Each writer returns the position after what it wrote.
+#![tactic(auto)]
+
 ghost use Rattle.std.specs.Prelude.{◌≡◌, ◌++◌, ◌∷◌, [], ◌+◌, ◌≤◌, ◌<◌, length, drop};
 ghost use Rattle.text.specs.Writing.{Written};
 ghost use Rattle.text.specs.Decimals.{decimal};

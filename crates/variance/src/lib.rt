@@ -1,4 +1,6 @@
 // The two variance calls: the variance of unknown k from a packed factor (plain) or from a blocked one.
+#![tactic(auto)]
+
 ghost use Rattle.calls.specs.declared.Layout.TheVariants.{Packed, Blocked};
 ghost use Rattle.calls.specs.Variances as Variances;
 ghost use Rattle.calls.specs.Variances.{EvaluatedAs};
