@@ -1,0 +1,16 @@
+-- `acceptance::put_all_spaced` meets its contract. The loop's invariant: the first k numbers are written. Assumes nothing.
+use Prim.Native.Nat.{◌-◌, ◌≤◌}
+use native.Mathlib.Omega.{arith}
+use mathlib.Core.Path.{◌≡◌, refl, ap, ◌∙◌}
+use lib.ListN.{length}
+use Rattle.text.specs.Writing.{Written, pieces}
+use Rattle.text.proofs.Texts.{as_text, pieces_none, pieces_turn}
+use Rattle.acceptance.specs.Counts.{spaced}
+use Rattle.acceptance.proofs.Lines.{length_spaced}
+use Rattle.acceptance.proofs.put_all_spaced.Given as goal
+
+abbrev pub invariant-loop-k : goal.invariant-loop-k
+invariant-loop-k l = (l.k ≤ length l.numbers) × (length l.out ≡ length l.initial.out) × Written l.at (pieces (spaced l.numbers) l.k) l.initial.out l.next l.out
+
+abbrev pub decreases-loop-k : goal.decreases-loop-k
+decreases-loop-k l = length l.numbers - l.k

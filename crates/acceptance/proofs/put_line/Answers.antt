@@ -1,0 +1,16 @@
+-- `acceptance::put_line` meets its contract: the numbers are the line's. Assumes nothing.
+use native.Mathlib.Omega.{arith}
+use Rattle.text.proofs.Texts.{as_text}
+use Rattle.acceptance.proofs.Systems.{total_small}
+use Rattle.acceptance.proofs.Lines.{line_of}
+use borrow.Author.Rules.{rules}
+use Rattle.acceptance.proofs.put_line.Goals as goal
+
+pub count_systems-counts-requires : goal.count_systems-counts-requires
+count_systems-counts-requires c =
+    (c.requires.n_bound, omega (arith, c.total-all.ensures, total_small c.args.n c.requires.n_bound))
+
+pub returns : goal.returns
+returns c =
+    let a = c.args in
+    as_text (line_of a.run a.n c.total-all.result c.count_systems-counts.result c.total-all.ensures c.count_systems-counts.ensures) c.put_numbers.ensures

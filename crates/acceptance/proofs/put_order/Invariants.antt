@@ -1,0 +1,17 @@
+-- `acceptance::put_order` meets its contract. The loop's invariant: the lines of the first k runs are written. Assumes nothing.
+use Prim.Native.Nat.{◌-◌, ◌≤◌}
+use native.Mathlib.Omega.{arith}
+use mathlib.Core.Path.{◌≡◌, refl, ap, ◌∙◌}
+use lib.ListN.{length}
+use Rattle.text.specs.Writing.{Written, pieces}
+use Rattle.text.proofs.Texts.{as_text, pieces_none, pieces_turn}
+use Rattle.acceptance.specs.declared.Run.{Run}
+use Rattle.acceptance.specs.Counts.{run_of, line}
+use Rattle.acceptance.proofs.Lines.{length_lines}
+use Rattle.acceptance.proofs.put_order.Given as goal
+
+abbrev pub invariant-loop-k : goal.invariant-loop-k
+invariant-loop-k l = (l.k ≤ l.count) × (length l.out ≡ length l.initial.out) × Written l.at (pieces (λ j. line (run_of j) l.n) l.k) l.initial.out l.next l.out
+
+abbrev pub decreases-loop-k : goal.decreases-loop-k
+decreases-loop-k l = l.count - l.k

@@ -1,0 +1,17 @@
+-- `blocked_factor::finish_triangle` meets its contract. The loop's invariant: the rows before s are finished, and their columns judged by their pivots. The
+use Prim.Native.Nat.{◌+◌, ◌-◌, ◌≤◌}
+use native.Mathlib.Nat.{le_refl}
+use native.Mathlib.Omega.{arith}
+use mathlib.Core.Path.{◌≡◌}
+use lib.ListN.{length}
+use Rattle.blocked_factor.specs.BlockColumns.{row_start}
+use Rattle.blocked_factor.specs.BlockStages.{TriangleFinished}
+use Rattle.blocked_factor.proofs.BlockRows.{row_mono}
+use Rattle.blocked_factor.proofs.Finishing.{triangle_none, triangle_next}
+use Rattle.blocked_factor.proofs.finish_triangle.Given as goal
+
+abbrev pub invariant-loop-s : goal.invariant-loop-s
+invariant-loop-s l = (l.s0 ≤ l.s) × (l.s ≤ l.e) × TriangleFinished l.c l.width l.s0 l.e l.s l.saved l.initial.judged l.initial.part l.judged l.part
+
+abbrev pub decreases-loop-s : goal.decreases-loop-s
+decreases-loop-s l = l.e - l.s

@@ -1,0 +1,18 @@
+-- `blocked_factor::update::update_panel` meets its contract. Assumes nothing.
+use native.Mathlib.Omega.{arith}
+use Rattle.blocked_factor.proofs.EarlierBlocks.{earlier_none}
+use Rattle.blocked_factor.proofs.Panels.{pack_ready, lanes_hold}
+use borrow.Author.Rules.{rules}
+use Rattle.blocked_factor.proofs.update.update_panel.Goals as goal
+
+pub returns-then-s0-eq0 : goal.returns-then-s0-eq0
+returns-then-s0-eq0 c = rw c.if-s0-eq0.true (earlier_none _ _ _ _ _ _)
+
+pub pack-requires : goal.pack-requires
+pack-requires c = pack_ready c.requires.own_columns _ c.requires.g_bound c.if-s0-spare.true
+
+pub update_rows-requires : goal.update_rows-requires
+update_rows-requires c = (c.requires.own_columns, (c.requires.g_bound, (λ always. (omega (arith, c.if-s0-spare.true, c.pack.auto.0), lanes_hold _ _ _ _ _ _ _ _ c.pack.ensures))))
+
+pub update_rows-requires-else-s0-spare : goal.update_rows-requires-else-s0-spare
+update_rows-requires-else-s0-spare c = (c.requires.own_columns, (c.requires.g_bound, (λ never. absurd never)))

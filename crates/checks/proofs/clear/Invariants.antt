@@ -1,0 +1,17 @@
+-- `checks::clear` meets its contract. The loop's invariant: the first p values are +0, and the rest are as they were. The measure is what is left
+use Prim.Native.Nat.{ℕ, zero, suc, ◌+◌, ◌-◌, ◌≤◌, ◌<◌}
+use native.Mathlib.Numerals.{add-one}
+use native.Mathlib.Omega.{arith}
+use mathlib.Core.Path.{◌≡◌, refl, ap, ◌∙◌}
+use mathlib.Core.List.{List, [], ◌∷◌, ◌++◌, append-nil}
+use lib.ListN.{length, set, drop, replicate, length-set}
+use lib.Seq.{drop-length}
+use lib.Ieee.{Float, of_bits}
+use Rattle.binary64.specs.Kinds.{zero64}
+use Rattle.checks.proofs.clear.Given as goal
+
+abbrev pub invariant-loop-p : goal.invariant-loop-p
+invariant-loop-p l = (l.p ≤ length l.initial.part) × (length l.part ≡ length l.initial.part) × (l.part ≡ replicate l.p zero64 ++ drop l.p l.initial.part)
+
+abbrev pub decreases-loop-p : goal.decreases-loop-p
+decreases-loop-p l = length l.initial.part - l.p

@@ -1,0 +1,16 @@
+-- `checks::rules::place_of` meets its contract, by cases on the layout. Assumes nothing.
+use borrow.Author.Rules.{rules}
+use Rattle.calls.specs.Triangles.{place_of}
+use Rattle.checks.proofs.rules.place_of.Goals as goal
+
+pub blocked_place-requires : goal.blocked_place-requires
+blocked_place-requires c =
+    (c.requires.order_le_max_order, (c.requires.block_nonzero (rw c.in-Blocked.is tt), c.requires.entry))
+
+pub returns-in-Packed : goal.returns-in-Packed
+unfolding place_of
+returns-in-Packed c = rw c.in-Packed.is c.packed_place.ensures
+
+pub returns-in-Blocked : goal.returns-in-Blocked
+unfolding place_of
+returns-in-Blocked c = rw c.in-Blocked.is c.blocked_place.ensures

@@ -1,0 +1,41 @@
+-- `convert::to_packed::rows_to_packed` meets its contract. The loop's invariant: the rows before i are moved. The measure is the number of rows
+use mathlib.Core.Path.{◌≡◌, refl}
+use Prim.Native.Nat.{◌-◌, ◌≤◌}
+use native.Mathlib.Omega.{arith}
+use borrow.Author.Rules.{rules}
+use lib.ListN.{length}
+use Rattle.calls.specs.declared.Conversion.TheVariants.{RfpToPacked}
+use Rattle.kernels.proofs.Transfers.{moved_no_rows, join_rows}
+use Rattle.convert.specs.Halves.{Moved}
+use Rattle.convert.proofs.Halves.{narrow, to_diagonal}
+use Rattle.convert.proofs.to_packed.rows_to_packed.Goals as goal
+
+-- left. Assumes nothing.
+
+pub loop-i-init : goal.loop-i-init
+loop-i-init c = (refl, omega arith, omega arith, moved_no_rows)
+
+pub row_to_packed-requires : goal.row_to_packed-requires
+row_to_packed-requires c =
+    let args = c.args in
+    let rows = c.requires.by_rows in (
+      omega arith,
+      (
+        (omega arith, omega arith, omega arith, omega arith),
+        narrow args.form args.shape.order args.left args.right rows args.left c.least-stop.result (omega arith) (omega arith),
+      ),
+    )
+
+pub loop-i-preserved : goal.loop-i-preserved
+loop-i-preserved c =
+    let args = c.args in (
+      omega (arith, c.row_to_packed.auto),
+      omega arith,
+      omega arith,
+      join_rows c.loop-i.invariant.3 (to_diagonal RfpToPacked args.form args.shape.order c.least-stop.ensures c.row_to_packed.ensures),
+    )
+
+pub returns : goal.returns
+returns c =
+    let all : c.loop-i.i ≡ c.args.end = omega arith in
+    rw all at c.loop-i.invariant.3

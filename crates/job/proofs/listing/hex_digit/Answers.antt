@@ -1,0 +1,13 @@
+-- `job::listing::hex_digit` meets its contract. By the two cases of `hexDigit`. Assumes nothing.
+use borrow.Author.Tests.{lt-ltb, le-ltb}
+use Rattle.job.specs.Listing.{hex_digit}
+use borrow.Author.Rules.{rules}
+use Rattle.job.proofs.listing.hex_digit.Goals as goal
+
+pub returns-then-d-lt10 : goal.returns-then-d-lt10
+unfolding hex_digit
+returns-then-d-lt10 c = rw (lt-ltb c.args.d 10 c.if-d-lt10.true)
+
+pub returns : goal.returns
+unfolding hex_digit
+returns c = rw (le-ltb c.args.d 10 c.if-d-lt10.false)

@@ -1,0 +1,32 @@
+-- `job_format::writer::map_byte` meets its contract. The loop goes from the highest bit down; the bits from k on are in the byte. Assumes nothing.
+use Prim.Native.Nat.{◌+◌, ◌-◌}
+use native.Mathlib.Omega.{arith}
+use mathlib.Core.Path.{refl}
+use borrow.Author.Rules.{rules}
+use Rattle.job_format.specs.Rewriting.{stands}
+use Rattle.job_format.proofs.Digits.{bit, BitsDown, down_none, down_turn, down_fits, down_all}
+use Rattle.job_format.proofs.writer.map_byte.Goals as goal
+
+pub loop-k-init : goal.loop-k-init
+loop-k-init c = let a = c.args in down_none (stands a.matrix.now) a.first 8
+
+pub overflow_mul-byte : goal.overflow_mul-byte
+overflow_mul-byte c =
+    let a = c.args in
+    let f = stands a.matrix.now in
+    omega (arith, down_fits f a.first 8 c.loop-k.byte c.loop-k.k c.loop-k-test.true c.loop-k.invariant (bit (f (a.first + (c.loop-k.k - 1)))) refl)
+
+pub overflow_add-byte : goal.overflow_add-byte
+overflow_add-byte c =
+    let a = c.args in
+    record { fits = down_fits (stands a.matrix.now) a.first 8 c.loop-k.byte c.loop-k.k c.loop-k-test.true c.loop-k.invariant c.bit.result c.bit.ensures }
+
+pub loop-k-preserved : goal.loop-k-preserved
+loop-k-preserved c =
+    let a = c.args in
+    down_turn (stands a.matrix.now) a.first 8 c.loop-k.byte c.loop-k.k c.loop-k-test.true c.loop-k.invariant c.bit.result c.bit.ensures
+
+pub returns : goal.returns
+returns c =
+    let a = c.args in
+    down_all (stands a.matrix.now) a.first 8 c.loop-k.byte c.loop-k.k c.loop-k-test.false c.loop-k.invariant

@@ -1,0 +1,14 @@
+-- `job_format::writer::map_byte` meets its contract. The loop goes from the highest bit down; the bits from k on are in the byte. Assumes nothing.
+use Prim.Native.Nat.{◌+◌, ◌-◌}
+use native.Mathlib.Omega.{arith}
+use mathlib.Core.Path.{refl}
+use borrow.Author.Rules.{rules}
+use Rattle.job_format.specs.Rewriting.{stands}
+use Rattle.job_format.proofs.Digits.{bit, BitsDown, down_none, down_turn, down_fits, down_all}
+use Rattle.job_format.proofs.writer.map_byte.Given as goal
+
+abbrev pub invariant-loop-k : goal.invariant-loop-k
+invariant-loop-k l = BitsDown (stands l.matrix) l.first 8 l.byte l.k
+
+abbrev pub decreases-loop-k : goal.decreases-loop-k
+decreases-loop-k l = l.k

@@ -1,0 +1,48 @@
+-- `kernels::columns::reduce_columns` meets its contract. The invariant of its loop: the products of the last k rows are subtracted. Assumes nothing.
+use Prim.Native.Nat.{ℕ, ◌-◌, ◌≤◌, ◌<◌}
+use native.Mathlib.Omega.{arith}
+use mathlib.Core.Path.{◌≡◌, refl, sym, ap, ◌∙◌}
+use lib.ListN.{get_or}
+use lib.Ieee.{Float, nan, binary64, sub, mul}
+use Rattle.shape.specs.Places.{blocked_place}
+use Rattle.calls.specs.Arithmetic.{minus_products}
+use Rattle.kernels.proofs.Products.{minus_none, minus_next}
+use Rattle.kernels.proofs.columns.reduce_columns.Goals as goal
+
+pub loop-k-init : goal.loop-k-init
+loop-k-init c = (omega arith, λ j p. sym (minus_none _ _ _))
+
+pub step_columns-step-requires : goal.step_columns-step-requires
+step_columns-step-requires c = (
+  c.requires.w_bound.0,
+  record {
+    order = c.requires.rows_below.order;
+    block = c.requires.rows_below.block;
+    block_high = c.requires.rows_below.block_high;
+    diagonal = refl;
+    some = c.requires.rows_below.some;
+    whole = c.requires.rows_below.whole;
+    above = omega (arith, c.requires.rows_below.above);
+    inside = omega arith;
+    size = c.requires.rows_below.size;
+  },
+)
+
+pub loop-k-preserved : goal.loop-k-preserved
+loop-k-preserved c =
+    let a = c.args in
+    let i = a.h - 1 - c.loop-k.k in (
+      omega arith,
+      λ j p.
+          c.step_columns-step.ensures j p
+          ∙ ap (λ (t : Float). sub binary64 t (mul binary64 (get_or a.part.now (blocked_place a.h a.b i j) nan) (get_or a.v.now i nan)))
+          (c.loop-k.invariant.1 j p)
+          ∙ sym
+          (minus_next (λ q. get_or a.part.now (blocked_place a.h a.b (a.h - 1 - q) j) nan) (λ q. get_or a.v.now (a.h - 1 - q) nan) c.loop-k.k
+          (get_or a.tile j nan)),
+    )
+
+pub returns : goal.returns
+returns c =
+    let all : c.loop-k.k ≡ c.args.count = omega arith in
+    rw all at c.loop-k.invariant.1

@@ -1,0 +1,20 @@
+-- `kernels::columns::reduce_columns` meets its contract. The invariant of its loop: the products of the last k rows are subtracted. Assumes nothing.
+use Prim.Native.Nat.{ℕ, ◌-◌, ◌≤◌, ◌<◌}
+use native.Mathlib.Omega.{arith}
+use mathlib.Core.Path.{◌≡◌, refl, sym, ap, ◌∙◌}
+use lib.ListN.{get_or}
+use lib.Ieee.{Float, nan, binary64, sub, mul}
+use Rattle.shape.specs.Places.{blocked_place}
+use Rattle.calls.specs.Arithmetic.{minus_products}
+use Rattle.kernels.proofs.Products.{minus_none, minus_next}
+use Rattle.kernels.proofs.columns.reduce_columns.Given as goal
+
+abbrev pub invariant-loop-k : goal.invariant-loop-k
+invariant-loop-k l =
+    (l.k ≤ l.count)
+    × ((j : ℕ) → j < l.w →
+    get_or l.next j nan
+    ≡ minus_products (λ q. get_or l.part (blocked_place l.h l.b (l.h - 1 - q) j) nan) (λ q. get_or l.v (l.h - 1 - q) nan) l.k (get_or l.initial.next j nan))
+
+abbrev pub decreases-loop-k : goal.decreases-loop-k
+decreases-loop-k l = l.count - l.k

@@ -1,0 +1,16 @@
+-- `kernels::divide8` meets its contract. Assumes nothing.
+use borrow.Author.Rules.{rules}
+use Prim.Native.Nat.{◌-◌, ◌≤◌}
+use native.Mathlib.Nat.{le_refl}
+use native.Mathlib.Omega.{arith}
+use mathlib.Core.Path.{◌≡◌, ap, ◌∙◌}
+use lib.ListN.{length, get_or}
+use lib.Ieee.{Float, nan, binary64, div}
+use Rattle.kernels.proofs.Loops.{Stored, stored_none, stored_next}
+use Rattle.kernels.proofs.divide8.Given as goal
+
+abbrev pub invariant-loop-s : goal.invariant-loop-s
+invariant-loop-s l = (l.s ≤ 8) × (length l.initial.quotients ≡ 8) × Stored nan (λ q. div binary64 (get_or l.initial.quotients q nan) l.y) l.initial.quotients l.s l.quotients
+
+abbrev pub decreases-loop-s : goal.decreases-loop-s
+decreases-loop-s l = 8 - l.s

@@ -1,0 +1,14 @@
+-- `kernels::gather_part8` meets its contract. The invariant of its loop: the first s values are taken. Assumes nothing.
+use Prim.Native.Nat.{◌+◌, ◌-◌, ◌≤◌}
+use native.Mathlib.Omega.{arith}
+use mathlib.Core.Path.{◌≡◌, refl}
+use lib.ListN.{length, get_or}
+use lib.Ieee.{nan}
+use Rattle.kernels.proofs.Loops.{Stored, stored_none, stored_next}
+use Rattle.kernels.proofs.gather_part8.Given as goal
+
+abbrev pub invariant-loop-s : goal.invariant-loop-s
+invariant-loop-s l = (l.s ≤ l.count) × (length l.initial.values ≡ 8) × Stored nan (λ q. get_or l.x (get_or l.at q 0 + l.k) nan) l.initial.values l.s l.values
+
+abbrev pub decreases-loop-s : goal.decreases-loop-s
+decreases-loop-s l = l.count - l.s

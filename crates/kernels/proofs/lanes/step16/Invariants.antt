@@ -1,0 +1,17 @@
+-- `kernels::lanes::step16` meets its contract. The invariant of its loop: the first s values are reduced. Assumes nothing.
+use Prim.Native.Nat.{◌+◌, ◌-◌, ◌≤◌}
+use native.Mathlib.Nat.{le_refl}
+use native.Mathlib.Omega.{arith}
+use mathlib.Core.Path.{◌≡◌, ap}
+use borrow.Author.Rules.{rules}
+use lib.ListN.{length, get_or}
+use lib.Ieee.{Float, nan, binary64, sub, mul}
+use Rattle.kernels.proofs.Loops.{Stored, stored_none, stored_next}
+use Rattle.kernels.proofs.lanes.step16.Given as goal
+
+abbrev pub invariant-loop-s : goal.invariant-loop-s
+invariant-loop-s l =
+    (l.s ≤ 16) × (length l.initial.next ≡ 16) × Stored nan (λ q. sub binary64 (get_or l.initial.next q nan) (mul binary64 (get_or l.x (l.at + q) nan) l.y)) l.initial.next l.s l.next
+
+abbrev pub decreases-loop-s : goal.decreases-loop-s
+decreases-loop-s l = 16 - l.s

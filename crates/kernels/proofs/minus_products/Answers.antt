@@ -1,0 +1,19 @@
+-- `kernels::minus_products` meets its contract. The invariant of its loop: the first k products are subtracted. Assumes nothing.
+use Prim.Native.Nat.{◌-◌, ◌≤◌}
+use native.Mathlib.Omega.{arith}
+use mathlib.Core.Path.{◌≡◌, sym}
+use Rattle.calls.specs.Arithmetic.{minus_products}
+use Rattle.kernels.specs.Kernels.{row_at}
+use Rattle.kernels.proofs.Products.{minus_none, minus_next}
+use Rattle.kernels.proofs.minus_products.Goals as goal
+
+pub loop-k-init : goal.loop-k-init
+loop-k-init c = (omega arith, sym (minus_none _ _ _))
+
+pub loop-k-preserved : goal.loop-k-preserved
+loop-k-preserved c = (omega arith, rw (minus_next, ← c.loop-k.invariant.1))
+
+pub returns : goal.returns
+returns c =
+    let e : c.loop-k.k ≡ c.args.count = omega arith in
+    rw (← e) c.loop-k.invariant.1

@@ -1,0 +1,33 @@
+-- `kernels::subtract_falling8` meets its contract. The invariant of its loop: the products from k on are subtracted from each value. Assumes nothing.
+use Prim.Native.Nat.{ℕ, ◌-◌, ◌≤◌, ◌<◌}
+use native.Mathlib.Omega.{arith}
+use mathlib.Core.Path.{◌≡◌, sym, ◌∙◌}
+use lib.ListN.{length, get_or}
+use lib.Ieee.{nan}
+use Rattle.kernels.specs.Kernels.{falling_from}
+use Rattle.kernels.proofs.Products.{minus_none, falling_next}
+use Rattle.kernels.proofs.subtract_falling8.Goals as goal
+
+pub loop-k-init : goal.loop-k-init
+loop-k-init c =
+    let y = c.args.y.now in
+    let none : length y - length y ≡ 0 = omega arith in
+    (omega arith, λ s h. rw none (sym (minus_none _ _ _)))
+
+pub step8-next-requires : goal.step8-next-requires
+step8-next-requires c = λ s h. omega (arith, c.requires s h)
+
+pub loop-k-preserved : goal.loop-k-preserved
+loop-k-preserved c =
+    let a = c.args in (
+      omega arith,
+      λ s h.
+          c.step8-next.ensures s h
+          ∙ falling_next a.x.now a.y.now (get_or a.at s 0) c.loop-k.k _ _ (omega arith) c.loop-k.invariant.0 (c.loop-k.invariant.1 s h),
+    )
+
+pub returns : goal.returns
+returns c =
+    let y = c.args.y.now in
+    let end : length y - c.loop-k.k ≡ length y = omega arith in
+    λ s h. rw end at (c.loop-k.invariant.1 s h)

@@ -1,0 +1,16 @@
+-- `kernels::subtract_falling8` meets its contract. The invariant of its loop: the products from k on are subtracted from each value. Assumes nothing.
+use Prim.Native.Nat.{ℕ, ◌-◌, ◌≤◌, ◌<◌}
+use native.Mathlib.Omega.{arith}
+use mathlib.Core.Path.{◌≡◌, sym, ◌∙◌}
+use lib.ListN.{length, get_or}
+use lib.Ieee.{nan}
+use Rattle.kernels.specs.Kernels.{falling_from}
+use Rattle.kernels.proofs.Products.{minus_none, falling_next}
+use Rattle.kernels.proofs.subtract_falling8.Given as goal
+
+abbrev pub invariant-loop-k : goal.invariant-loop-k
+invariant-loop-k l =
+    (l.k ≤ length l.y) × ((s : ℕ) → s < 8 → get_or l.values s nan ≡ falling_from l.x (get_or l.at s 0) l.y (length l.y - l.k) (get_or l.initial.values s nan))
+
+abbrev pub decreases-loop-k : goal.decreases-loop-k
+decreases-loop-k l = l.k

@@ -1,0 +1,19 @@
+-- `kernels::subtract_rising` meets its contract. The invariant of its loop: the first k products are subtracted. Assumes nothing.
+use Prim.Native.Nat.{◌-◌, ◌≤◌}
+use native.Mathlib.Omega.{arith}
+use mathlib.Core.Path.{◌≡◌, sym}
+use lib.ListN.{length}
+use Rattle.kernels.specs.Kernels.{rising_from}
+use Rattle.kernels.proofs.Products.{minus_none, minus_next}
+use Rattle.kernels.proofs.subtract_rising.Goals as goal
+
+pub loop-k-init : goal.loop-k-init
+loop-k-init c = (omega arith, sym (minus_none _ _ _))
+
+pub loop-k-preserved : goal.loop-k-preserved
+loop-k-preserved c = (omega arith, rw (minus_next, ← c.loop-k.invariant.1))
+
+pub returns : goal.returns
+returns c =
+    let end : c.loop-k.k ≡ length c.args.y.now = omega arith in
+    rw end at c.loop-k.invariant.1

@@ -1,0 +1,17 @@
+-- `kernels::tiles::step_row` meets its contract. Assumes nothing.
+use Prim.Native.Nat.{◌+◌, ◌-◌, ◌≤◌}
+use native.Mathlib.Nat.{le_refl}
+use native.Mathlib.Omega.{arith}
+use mathlib.Core.Path.{◌≡◌, ap}
+use borrow.Author.Rules.{rules}
+use lib.ListN.{length, get_or}
+use lib.Ieee.{Float, nan, binary64, sub, mul}
+use Rattle.kernels.specs.Kernels.{Filled}
+use Rattle.kernels.proofs.Parts.{filled_none, filled_next}
+use Rattle.kernels.proofs.tiles.step_row.Given as goal
+
+abbrev pub invariant-loop-s : goal.invariant-loop-s
+invariant-loop-s l = (l.s ≤ l.lanes) × (length l.initial.next ≡ 16) × Filled nan l.from l.s (λ q. sub binary64 (get_or l.initial.next (l.from + q) nan) (mul binary64 (get_or l.x (l.at + q) nan) l.y)) l.initial.next l.next
+
+abbrev pub decreases-loop-s : goal.decreases-loop-s
+decreases-loop-s l = l.lanes - l.s

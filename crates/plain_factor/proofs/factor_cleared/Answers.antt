@@ -1,0 +1,11 @@
+-- `plain_factor::factor_cleared` meets its contract. Assumes nothing.
+use mathlib.Core.Path.{◌∙◌, ap}
+use lib.ListN.{replicate}
+use Rattle.binary64.specs.Kinds.{zero64}
+use borrow.Author.Rules.{rules}
+use Rattle.plain_factor.proofs.factor_cleared.Goals as goal
+
+pub returns : goal.returns
+returns c =
+    let pre = c.requires in
+    (c.factor_columns-judged.ensures, c.clear.ensures ∙ ap (λ k. replicate k zero64) (c.factor_columns-judged.auto.1.0 ∙ pre.2))

@@ -1,0 +1,42 @@
+-- `plain_factor::form_pair` meets its contract. Assumes nothing.
+use native.Mathlib.Omega.{arith}
+use native.Mathlib.Decide.{dec_lt}
+use mathlib.Core.Path.{◌∙◌}
+use borrow.Author.Rules.{rules}
+use Rattle.plain_factor.proofs.form_pair.Goals as goal
+
+pub reduce_pair-requires : goal.reduce_pair-requires
+reduce_pair-requires c = (
+  c.requires.column,
+  (
+    c.load_waiting.auto.0 ∙ c.load_column.auto.0 ∙ c.requires.work_len,
+    (
+      c.requires.room,
+      (λ i low h. c.load_waiting.ensures.1 i (omega arith) h ∙ c.load_column.ensures.reduced i (omega arith) h, c.load_waiting.ensures.waiting),
+    ),
+  ),
+)
+
+pub reduce_column-requires : goal.reduce_column-requires
+reduce_column-requires c = (
+  c.requires.column,
+  (
+    (c.reduce_pair.auto.0 ∙ c.load_waiting.auto.0 ∙ c.load_column.auto.0 ∙ c.requires.work_len, omega arith, omega arith),
+    λ i low h.
+        c.reduce_pair.ensures.1.1 i (omega arith) h ∙ c.load_waiting.ensures.1 i (omega arith) (omega arith)
+        ∙ c.load_column.ensures.reduced i low (omega arith),
+  ),
+)
+
+pub returns : goal.returns
+returns c =
+    let next = c.args.next in
+    let room = c.requires.room.room in
+    record {
+      rows = λ i low h.
+          elim (dec_lt i next) [
+            | yes p ↦ c.reduce_column.ensures.reduced_2 i low p
+            | no p ↦ c.reduce_column.ensures.1.1 i (omega arith) h ∙ c.reduce_pair.ensures.reduced_2 i (omega arith) h
+          ];
+      waiting = λ r h. c.reduce_column.ensures.same r (omega arith) (omega (arith, room)) ∙ c.reduce_pair.ensures.waiting_2 r h;
+    }

@@ -1,0 +1,21 @@
+-- `plain_factor::form_waiting` meets its contract. Assumes nothing.
+use native.Mathlib.Omega.{arith}
+use native.Mathlib.Decide.{dec_lt}
+use mathlib.Core.Path.{◌∙◌}
+use borrow.Author.Rules.{rules}
+use Rattle.plain_factor.proofs.form_waiting.Goals as goal
+
+pub reduce_column-requires : goal.reduce_column-requires
+reduce_column-requires c = (
+  c.requires.column,
+  ((c.load_column.auto.0 ∙ c.take_waiting.auto.0 ∙ c.requires.work_len, omega arith, omega arith), c.load_column.ensures.reduced),
+)
+
+pub returns : goal.returns
+returns c =
+    let a = c.args in
+    λ i low h.
+    elim (dec_lt i a.top) [
+      | yes p ↦ c.reduce_column.ensures.reduced_2 i low p
+      | no p ↦ c.reduce_column.ensures.1.1 i (omega arith) h ∙ c.load_column.ensures.1 i (omega arith) h ∙ c.take_waiting.ensures i (omega arith) h
+    ]

@@ -1,0 +1,17 @@
+-- `plain_factor::reduce_row` meets its contract. The loop's invariant: the row is less its products in c columns. The measure is what is left of the group. Assumes nothing.
+use Prim.Native.Nat.{ℕ, ◌+◌, ◌-◌, ◌≤◌, ◌<◌}
+use native.Mathlib.Nat.{add-zero}
+use native.Mathlib.Omega.{arith}
+use mathlib.Core.Path.{◌≡◌, ap, ◌∙◌}
+use lib.ListN.{length}
+use Rattle.shape.specs.Places.{packed_place}
+use Rattle.plain_factor.specs.Steps.{less_products}
+use Rattle.plain_factor.proofs.Rows.{row_place_le, start_next, less_none, less_next}
+use Rattle.plain_factor.proofs.reduce_row.Given as goal
+
+abbrev pub invariant-loop-c : goal.invariant-loop-c
+invariant-loop-c l =
+    (l.c ≤ l.count) × (l.start ≡ packed_place l.n 0 (l.k + l.c)) × (l.rest ≡ less_products l.n l.matrix l.j l.k l.c l.i l.row)
+
+abbrev pub decreases-loop-c : goal.decreases-loop-c
+decreases-loop-c l = l.count - l.c

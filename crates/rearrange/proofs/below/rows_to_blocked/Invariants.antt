@@ -1,0 +1,18 @@
+-- `rearrange::below::rows_to_blocked` meets its contract. The loop's invariant: the columns before s are moved. The measure is the number of columns
+use mathlib.Core.Path.{◌≡◌, refl}
+use Prim.Native.Nat.{◌-◌, ◌≤◌}
+use native.Mathlib.Omega.{arith}
+use lib.ListN.{length}
+use Rattle.calls.specs.declared.Layout.TheVariants.{Blocked}
+use Rattle.kernels.proofs.Transfers.{moved_no_columns, join_columns}
+use Rattle.rearrange.specs.Moves.{Moved}
+use Rattle.rearrange.proofs.below.rows_to_blocked.Given as goal
+
+abbrev pub invariant-loop-s : goal.invariant-loop-s
+invariant-loop-s l =
+    (length l.target ≡ length l.initial.target)
+    × (l.s ≤ l.part.block)
+    × Moved Blocked l.part.order l.part.block l.first l.end 0 l.s l.source l.initial.target l.target
+
+abbrev pub decreases-loop-s : goal.decreases-loop-s
+decreases-loop-s l = l.part.block - l.s

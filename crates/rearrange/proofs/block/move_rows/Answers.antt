@@ -1,0 +1,38 @@
+-- `rearrange::block::move_rows` meets its contract. The loop's invariant: the rows from the diagonal block's end to r are moved. The measure is the
+use mathlib.Core.Path.{◌≡◌, refl}
+use Prim.Native.Nat.{◌-◌, ◌≤◌}
+use native.Mathlib.Omega.{arith}
+use borrow.Author.Rules.{rules}
+use lib.ListN.{length}
+use Rattle.kernels.proofs.Transfers.{moved_no_rows, join_rows}
+use Rattle.rearrange.specs.Moves.{Moved}
+use Rattle.rearrange.proofs.block.move_rows.Goals as goal
+
+-- number of rows left. Assumes nothing.
+
+pub loop-r-init : goal.loop-r-init
+loop-r-init c = (refl, omega arith, omega arith, moved_no_rows)
+
+pub move_tile-requires : goal.move_tile-requires
+move_tile-requires c =
+    let size = c.move_diagonal.auto in
+    (omega arith, omega arith)
+
+pub loop-r-smaller : goal.loop-r-smaller
+loop-r-smaller c = omega (arith, c.least-end.ensures)
+
+pub loop-r-preserved : goal.loop-r-preserved
+loop-r-preserved c = (
+  omega (arith, c.move_tile.auto),
+  omega (arith, c.least-end.ensures),
+  omega (arith, c.least-end.ensures),
+  join_rows c.loop-r.invariant.3 c.move_tile.ensures,
+)
+
+pub shape_of-target : goal.shape_of-target
+shape_of-target c = omega (arith, c.move_diagonal.auto)
+
+pub returns : goal.returns
+returns c =
+    let all : c.loop-r.r ≡ c.args.part.order = omega arith in
+    join_rows c.move_diagonal.ensures (rw all at c.loop-r.invariant.3)

@@ -1,0 +1,59 @@
+-- `solve::plain::forward` meets its contract. The invariant of its loop: the substitution has come to k; column k begins at `at`. Assumes nothing.
+use Prim.Native.Nat.{◌+◌, ◌-◌, ◌≤◌}
+use native.Mathlib.Omega.{arith}
+use mathlib.Core.Path.{◌≡◌, sym, ◌∙◌}
+use lib.ListN.{length-take, length-drop}
+use Rattle.shape.specs.Places.{packed_place, block_start}
+use Rattle.shape.proofs.Columns.{block_start_zero, block_start_next}
+use Rattle.shape.proofs.Bounds.{block_start_le, triangle_le}
+use Rattle.calls.specs.Triangles.{height, load}
+use Rattle.solve.proofs.Packed.{forward_turn}
+use Rattle.solve.proofs.Substitution.{ForwardTo, forward_start, forward_end}
+use Rattle.solve.proofs.plain.forward.Goals as goal
+
+pub loop-k-init : goal.loop-k-init
+loop-k-init c =
+    let a = c.args in
+    (omega arith, sym (block_start_zero a.n), forward_start a.n _ a.work.now c.requires.work_len)
+
+pub overflow_add-next : goal.overflow_add-next
+overflow_add-next c =
+    let a = c.args in
+    omega (arith, block_start_next a.n c.loop-k.k (omega arith), block_start_le a.n (c.loop-k.k + 1) (omega arith), triangle_le a.n (omega arith))
+
+pub offset_bounds-matrix-at : goal.offset_bounds-matrix-at
+offset_bounds-matrix-at c =
+    let a = c.args in
+    omega (arith, block_start_le a.n c.loop-k.k (omega arith), triangle_le a.n (omega arith))
+
+pub slice_bounds-forward_column-end : goal.slice_bounds-forward_column-end
+slice_bounds-forward_column-end c =
+    let a = c.args in
+    omega (arith, block_start_next a.n c.loop-k.k (omega arith), block_start_le a.n (c.loop-k.k + 1) (omega arith))
+
+pub forward_column-requires : goal.forward_column-requires
+forward_column-requires c =
+    let a = c.args in (
+      simp (length-take, length-drop) (omega arith),
+      simp (length-take, length-drop)
+          (omega (arith, block_start_next a.n c.loop-k.k (omega arith), block_start_le a.n (c.loop-k.k + 1) (omega arith))),
+    )
+
+pub loop-k-preserved : goal.loop-k-preserved
+loop-k-preserved c =
+    let a = c.args in (
+      omega arith,
+      omega (arith, block_start_next a.n c.loop-k.k (omega arith)),
+      forward_turn a.n c.loop-k.k c.loop-k.at a.matrix.now a.work.now c.loop-k.work c.forward_column.new.work
+          c.loop-k-test.true c.loop-k.invariant.1
+          c.loop-k.invariant.2 c.forward_column.ensures,
+    )
+
+pub shape_of-work : goal.shape_of-work
+shape_of-work c = c.loop-k.invariant.2.size ∙ sym c.requires.work_len
+
+pub returns : goal.returns
+returns c =
+    let a = c.args in
+    let end : c.loop-k.k ≡ a.n = omega arith in
+    forward_end a.n _ a.work.now c.loop-k.work (rw end at c.loop-k.invariant.2)

@@ -1,0 +1,20 @@
+-- `solve::rhs::solve_all` meets its contract. The invariant of its loop: the first q right-hand sides pass and hold their solutions, the others are
+use Prim.Native.Nat.{◌+◌, ◌-◌, ◌*◌, ◌≤◌}
+use native.Mathlib.Omega.{arith}
+use mathlib.Core.Path.{◌≡◌, refl, ap, ◌∙◌, subst}
+use borrow.Author.Rules.{rules}
+use lib.ListN.{length}
+use Rattle.calls.specs.Refusals.{success, lowest_refusal}
+use Rattle.calls.specs.Calls.{solutions}
+use Rattle.solve.specs.Solving.{factor_of}
+use Rattle.solve.proofs.RightSides.{judge_rhs, none_solved, length_solutions, next_within, turn_kept, turn_refused, turn_solved, all_solved, next_at}
+use Rattle.solve.proofs.rhs.solve_all.Given as goal
+
+abbrev pub invariant-loop-q : goal.invariant-loop-q
+invariant-loop-q l =
+    (l.q ≤ l.m) × (l.from ≡ l.q * l.shape.order) × (length l.work ≡ length l.initial.work)
+    × (l.rhs ≡ solutions l.shape.order (factor_of l.layout l.shape.order l.shape.block 0 l.matrix) l.q l.initial.rhs)
+    × (lowest_refusal (judge_rhs l.shape.order (factor_of l.layout l.shape.order l.shape.block 0 l.matrix) l.initial.rhs) l.q ≡ success)
+
+abbrev pub decreases-loop-q : goal.decreases-loop-q
+decreases-loop-q l = l.m - l.q
