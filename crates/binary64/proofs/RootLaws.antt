@@ -20,7 +20,7 @@ use Rattle.binary64.specs.Root.{magnitude, MidpointRule, root_bits, root_by, roo
 use Rattle.binary64.specs.RootSteps.{PositiveFinite}
 use Rattle.binary64.proofs.Magnitudes.{magnitude_subnormal, magnitude_mono}
 use Rattle.binary64.proofs.Midpoints.{root_range, root_rule}
-use Rattle.binary64.proofs.Values.{Value, zero_value, subnormal_value, normal_value, value_case, finite_library, library_finite, library_of_value, pattern_value, pattern_number, bits_range}
+use Rattle.binary64.proofs.Values.{Value, zero_value, subnormal_value, normal_value, infinite_value, nan_value, value_case, finite_library, library_finite, library_of_value, pattern_value, pattern_number, bits_range}
 
 -- ---- greater than zero and finite
 
@@ -51,6 +51,8 @@ positive_kind x κ (zero_value {s = true}) h = absurd h
 positive_kind x κ (zero_value {s = false}) h = absurd h
 positive_kind x κ subnormal_value h = inl refl
 positive_kind x κ normal_value h = inr refl
+positive_kind x κ (infinite_value {s = s}) h = absurd h
+positive_kind x κ nan_value h = absurd h
 
 rooted : (κ : Kind) (above : Bool) (x : Float) → (κ ≡ Subnormal) ⊎ (κ ≡ Normal) → above ≡ true → root_by κ above x ≡ of_bits binary64 (root_bits (to_bits binary64 x))
 unfolding root_by

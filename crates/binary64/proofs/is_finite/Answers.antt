@@ -1,4 +1,5 @@
 -- `binary64::is_finite` meets its contract. Assumes nothing.
+use borrow.Enum.Refused.{opened}
 use mathlib.Core.Path.{◌≡◌, refl, ap, ◌∙◌}
 use mathlib.Core.Bool.{true, false}
 use mathlib.Core.List.{[], ◌∷◌}
@@ -29,7 +30,7 @@ last_two NaN h = refl
 
 pub returns-in-Zero : goal.returns-in-Zero
 unfolding finite
-returns-in-Zero c = first_three c.kind_of.result c.in-Zero.in-Zero-own.keys1 ∙ ap finite_kind c.kind_of.ensures
+returns-in-Zero c = first_three c.kind_of.result (opened c.in-Zero.in-Zero-own.keys1) ∙ ap finite_kind c.kind_of.ensures
 
 pub returns-in-Infinite : goal.returns-in-Infinite
 unfolding finite

@@ -1,4 +1,5 @@
 -- `binary64::square_root` meets its contract, kind by kind. Assumes nothing.
+use borrow.Enum.Refused.{opened}
 use mathlib.Core.Path.{◌≡◌, refl, sym, ap, ◌∙◌, subst}
 use mathlib.Core.Logic.{◌⊎◌, inl, inr}
 use mathlib.Core.Bool.{Bool, true, false, not}
@@ -18,22 +19,6 @@ use Rattle.binary64.proofs.Values.{nan_of_kind, number_of_kind, pattern_number}
 use Rattle.binary64.proofs.RootLaws.{root_is, positive_pattern, root_below, exact_bits, inexact_below, inexact_infinite, inexact_zero}
 use Rattle.binary64.specs.contracts.kinds.Kind.{the_type}
 use Rattle.binary64.proofs.square_root.Goals as goal
-
--- ---- the arms' kinds
-
-first_arm : (κ : Kind) → OneOf (0 ∷ 4 ∷ []) (tag_of the_type κ) → (κ ≡ Zero) ⊎ (κ ≡ NaN)
-first_arm Zero h = inl refl
-first_arm Subnormal h = absurd (miss (0 ∷ 4 ∷ []) 1 tt h)
-first_arm Normal h = absurd (miss (0 ∷ 4 ∷ []) 2 tt h)
-first_arm Infinite h = absurd (miss (0 ∷ 4 ∷ []) 3 tt h)
-first_arm NaN h = inr refl
-
-second_arm : (κ : Kind) → OneOf (1 ∷ 2 ∷ []) (tag_of the_type κ) → (κ ≡ Subnormal) ⊎ (κ ≡ Normal)
-second_arm Zero h = absurd (miss (1 ∷ 2 ∷ []) 0 tt h)
-second_arm Subnormal h = inl refl
-second_arm Normal h = inr refl
-second_arm Infinite h = absurd (miss (1 ∷ 2 ∷ []) 3 tt h)
-second_arm NaN h = absurd (miss (1 ∷ 2 ∷ []) 4 tt h)
 
 -- ---- a zero, an infinity, a NaN
 
@@ -92,35 +77,32 @@ module _ (x : Float) (k : (kind x ≡ Subnormal) ⊎ (kind x ≡ Normal)) where
 is_true : {b : Bool} → b ≡ true → T b
 is_true e = subst T (sym e) tt
 
-second_kind : (c : goal.In-Subnormal) → (kind c.args.x ≡ Subnormal) ⊎ (kind c.args.x ≡ Normal)
-second_kind c = subst (λ κ. (κ ≡ Subnormal) ⊎ (κ ≡ Normal)) c.kind_of.ensures (second_arm c.kind_of.result c.in-Subnormal.in-Subnormal-own.keys2)
-
-third_kind : (c : goal.In-Infinite) → kind c.args.x ≡ Infinite
-third_kind c = sym c.kind_of.ensures ∙ c.in-Infinite.is
+second_kind : (x : Float) {κ : Kind} → κ ≡ kind x → (κ ≡ Subnormal) ⊎ (κ ≡ Normal) → (kind x ≡ Subnormal) ⊎ (kind x ≡ Normal)
+second_kind x e h = subst (λ κ. (κ ≡ Subnormal) ⊎ (κ ≡ Normal)) e h
 
 is_above : (c : goal.Then-x) → T (positive c.args.x)
 unfolding of_bits positive
 is_above c = is_true c.if-x.true
 
 pub float_to_bits-x : goal.float_to_bits-x
-float_to_bits-x c = not_nan c.args.x (second_kind c.before)
+float_to_bits-x c = not_nan c.args.x (second_kind c.args.x c.kind_of.ensures c.in-Subnormal.is)
 
 pub root_of_bits-found-requires : goal.root_of_bits-found-requires
-root_of_bits-found-requires c = rootable c.args.x (second_kind c.before) (is_true c.well_formed.0.1) (is_above c)
+root_of_bits-found-requires c = rootable c.args.x (second_kind c.args.x c.kind_of.ensures c.in-Subnormal.is) (is_true c.well_formed.0.1) (is_above c)
 
 pub float_from_bits-value : goal.float_from_bits-value
 float_from_bits-value c =
-    root_number c.args.x (second_kind c.before.before) (is_true c.well_formed.0.1) (is_above c.before)
+    root_number c.args.x (second_kind c.args.x c.kind_of.ensures c.in-Subnormal.is) (is_true c.well_formed.0.1) (is_above c.before)
     c.root_of_bits-found.result.bits c.root_of_bits-found.ensures.bits
 
 pub returns-in-Zero : goal.returns-in-Zero
 returns-in-Zero c =
     itself c.args.x (is_true c.well_formed.0.1)
-    (subst (λ κ. (κ ≡ Zero) ⊎ (κ ≡ NaN)) c.kind_of.ensures (first_arm c.kind_of.result c.in-Zero.in-Zero-own.keys1))
+    (subst (λ κ. (κ ≡ Zero) ⊎ (κ ≡ NaN)) c.kind_of.ensures c.in-Zero.is)
 
 pub returns-then-x : goal.returns-then-x
 returns-then-x c =
-    let kinds = second_kind c.before.before in
+    let kinds = second_kind c.args.x c.kind_of.ensures c.in-Subnormal.is in
     let holds = is_true c.well_formed.0.1 in (
       ap (of_bits binary64) c.root_of_bits-found.ensures.bits ∙ sym (rooted c.args.x kinds holds (is_above c.before)),
       c.root_of_bits-found.ensures.exactly ∙ sym (exactly c.args.x kinds holds (is_above c.before)),
@@ -128,16 +110,16 @@ returns-then-x c =
 
 pub returns-else-x : goal.returns-else-x
 unfolding of_bits div positive
-returns-else-x c = below_root c.args.x (second_kind c.before) c.if-x.false
+returns-else-x c = below_root c.args.x (second_kind c.args.x c.kind_of.ensures c.in-Subnormal.is) c.if-x.false
 
 pub returns-then-x-2 : goal.returns-then-x-2
 unfolding of_bits positive
 returns-then-x-2 c =
     let x = c.args.x in
-    (infinite_root x (third_kind c.before) c.if-x-2.true, infinite_exact x (third_kind c.before))
+    (infinite_root x (sym c.kind_of.ensures ∙ c.in-Infinite.is) c.if-x-2.true, infinite_exact x (sym c.kind_of.ensures ∙ c.in-Infinite.is))
 
 pub returns-else-x-2 : goal.returns-else-x-2
 unfolding of_bits div positive
 returns-else-x-2 c =
     let x = c.args.x in
-    (infinite_below x (third_kind c.before) c.if-x-2.false, infinite_exact x (third_kind c.before))
+    (infinite_below x (sym c.kind_of.ensures ∙ c.in-Infinite.is) c.if-x-2.false, infinite_exact x (sym c.kind_of.ensures ∙ c.in-Infinite.is))

@@ -5,6 +5,7 @@ use Prim.Native.Nat.{ℕ, ◌-◌, ◌^◌, ◌≤◌, ◌<◌}
 use native.Mathlib.Omega.{arith}
 use Rattle.binary64.proofs.IntegerRoots.{Digits, digit_zero, digit_one, digits_none, digits_all, digits_lt}
 use Rattle.binary64.proofs.root.integer_root.Goals as goal
+use Rattle.binary64.proofs.root.integer_root.Goals.{then-remainder-root, else-remainder-root}
 
 -- Assumes nothing.
 
@@ -40,10 +41,10 @@ overflow_add-root c = omega (arith, root_lt c.before)
 pub loop-i-preserved : goal.loop-i-preserved
 loop-i-preserved c =
     let s = c.args.s in
-    ⊎_elim
-    (λ w. (omega arith, rw (w.1, w.2) (digit_one s c.loop-i.i c.loop-i.rest c.loop-i.root c.loop-i.remainder c.loop-i.invariant.1 w.0.taken)))
-    (λ w. (omega arith, rw (w.1, w.2) (digit_zero s c.loop-i.i c.loop-i.rest c.loop-i.root c.loop-i.remainder c.loop-i.invariant.1 w.0.left)))
-    c.if-remainder-root.branch
+    elim c.if-remainder-root.branch [
+      then-remainder-root w ↦ (omega arith, rw (w.root-is, w.remainder-is) (digit_one s c.loop-i.i c.loop-i.rest c.loop-i.root c.loop-i.remainder c.loop-i.invariant.1 w.if-remainder-root.true))
+    | else-remainder-root w ↦ (omega arith, rw (w.root-is, w.remainder-is) (digit_zero s c.loop-i.i c.loop-i.rest c.loop-i.root c.loop-i.remainder c.loop-i.invariant.1 w.if-remainder-root.false))
+    ]
 
 pub returns : goal.returns
 returns c =

@@ -1,4 +1,5 @@
 -- `binary64::root::normalise` meets its contract. Where the pattern is a subnormal's the fraction is the pattern itself, and its leading zeros are from 12
+use borrow.Enum.Refused.{opened}
 use mathlib.Core.Path.{◌≡◌, sym, ◌∙◌, subst}
 use mathlib.Core.Logic.{◌⊎◌, inl, inr}
 use mathlib.Core.List.{[], ◌∷◌}
@@ -75,4 +76,4 @@ returns-in-Subnormal c = shifted c.args.bits c.requires (subnormal c)
 pub returns-in_default : goal.returns-in_default
 returns-in_default c =
     normal c.args.bits c.requires
-    (subst (λ κ. OneOf (0 ∷ 2 ∷ 3 ∷ 4 ∷ []) (tag_of the_type κ)) c.kind_of_bits.ensures c.in_default.in_default-own.keys2)
+    (subst (λ κ. OneOf (0 ∷ 2 ∷ 3 ∷ 4 ∷ []) (tag_of the_type κ)) c.kind_of_bits.ensures (opened c.in_default.in_default-own.keys2))

@@ -1,4 +1,5 @@
 -- `job::floats::bits_of` meets its contract, by the kind of the value. Assumes nothing.
+use borrow.Enum.Refused.{opened}
 use mathlib.Core.Path.{sym, ◌∙◌, subst}
 use mathlib.Core.List.{[], ◌∷◌}
 use lib.Dec.{T}
@@ -11,7 +12,7 @@ use Rattle.job.proofs.floats.bits_of.Goals as goal
 
 pub float_to_bits-result : goal.float_to_bits-result
 float_to_bits-result c =
-    number_of_kind c.args.v (λ e. other_arm (0 ∷ 1 ∷ 2 ∷ 3 ∷ []) c.kind_of.result NaN tt c.in_default.in_default-own.keys2 (c.kind_of.ensures ∙ e))
+    number_of_kind c.args.v (λ e. other_arm (0 ∷ 1 ∷ 2 ∷ 3 ∷ []) c.kind_of.result NaN tt (opened c.in_default.in_default-own.keys2) (c.kind_of.ensures ∙ e))
 
 pub returns-in-NaN : goal.returns-in-NaN
 returns-in-NaN c =
