@@ -135,7 +135,7 @@ module _ (n b m : ℕ) (order : n ≤ max_order) (low : 1 ≤ b) (high : b ≤ m
 
     factor_suits : T (suits (next (Solver layout) (state_number (Factored layout))))
     unfolding look_up
-    factor_suits = elim layout [
+    factor_suits = elim layout as (λ k. T (suits (next (Solver k) (state_number (Factored k))))) [
       | Packed ↦ tt
       | Blocked ↦ tt
     ]
@@ -171,7 +171,7 @@ module _ (n b m : ℕ) (order : n ≤ max_order) (low : 1 ≤ b) (high : b ≤ m
 
   raw_suits : T (suits (next (Factor layout) (state_number (Raw layout))))
   unfolding look_up
-  raw_suits = elim layout [
+  raw_suits = elim layout as (λ k. T (suits (next (Factor k) (state_number (Raw k))))) [
     | Packed ↦ tt
     | Blocked ↦ tt
   ]

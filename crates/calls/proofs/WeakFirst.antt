@@ -17,9 +17,10 @@ use Rattle.calls.specs.declared.Verdict.{Verdict}
 use Rattle.calls.specs.declared.Layout.{Layout}
 use Rattle.calls.specs.declared.Layout.TheVariants.{Packed, Blocked}
 use Rattle.calls.specs.declared.Call.TheVariants.{Factor}
-use Rattle.calls.specs.Triangles.{Triangle, entry}
+use Rattle.calls.specs.Arithmetic.{cholesky}
+use Rattle.calls.specs.Triangles.{Triangle, entry, height, place_of, store}
 use Rattle.calls.specs.Refusals.{accepted, refusal, first_refusal, rule10, rule11, weak, rule16, column_rules}
-use Rattle.calls.specs.Calls.{Done, spends, result_of, answer, factorize}
+use Rattle.calls.specs.Calls.{Done, spends, result_of, answer, finished, factorize}
 use Rattle.calls.proofs.Refusals.{lowest_related}
 use Rattle.calls.proofs.ColumnRules.{weak_positive, rules_place}
 use Rattle.calls.proofs.CheckLaws.{factor_checks_keep}
@@ -139,6 +140,11 @@ module _ (n : ℕ) (a : Triangle) where
 
 -- ---- the call, of both layouts
 
+-- 11 and 16 at one place leave as many finished columns
+finished_alike : (layout : Layout) (n b j : ℕ) (x y : Float) → finished layout n b (refusal 16 j x) ≡ finished layout n b (refusal 11 j y)
+finished_alike Packed n b j x y = refl
+finished_alike Blocked n b j x y = refl
+
 module _ (layout : Layout) (shape : Shape) (matrix work : List Float) where
   abbrev n : ℕ
   n = shape.order
@@ -152,10 +158,9 @@ module _ (layout : Layout) (shape : Shape) (matrix work : List Float) where
       (record {
         changed = λ t. (refl, refl);
         same = λ h. absurd (subst T h q.both);
-        matrix = elim layout [
-          | Packed ↦ refl
-          | Blocked ↦ refl
-        ];
+        matrix =
+            ap (λ (k : ℕ). store (place_of layout shape.order shape.block) (cholesky (height shape.order) a k) matrix)
+            (finished_alike layout shape.order shape.block q.at (pivot_of n a q.at) zero64);
         work = refl;
       })
   done_reordered v w (inr q) =

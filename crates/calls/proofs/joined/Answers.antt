@@ -3,7 +3,6 @@ use Prim.Native.Nat.{◌+◌}
 use native.Mathlib.Omega.{arith}
 use mathlib.Core.Path.{sym, ap, ap₂, ◌∙◌}
 use mathlib.Core.Bool.{◌&&◌}
-use borrow.Author.Rules.{rules}
 use Rattle.calls.specs.declared.Judgement.{Judgement}
 use Rattle.calls.specs.Refusals.{accepted}
 use Rattle.calls.proofs.Judging.{refused_of, accepted_of, judged_stays, judged_next}

@@ -1,6 +1,5 @@
 -- `calls::judged_result` meets its contract. Assumes nothing.
 use mathlib.Core.Path.{refl}
-use borrow.Author.Rules.{rules}
 use Rattle.calls.proofs.judged_result.Goals as goal
 
 pub returns : goal.returns

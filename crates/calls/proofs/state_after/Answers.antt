@@ -1,6 +1,5 @@
 -- `calls::state_after` meets its contract. Assumes nothing.
 use mathlib.Core.Path.{refl, sym, ◌∙◌}
-use borrow.Author.Rules.{rules}
 use Rattle.calls.specs.Calls.{state_after}
 use Rattle.calls.proofs.state_after.Goals as goal
 

@@ -1,6 +1,5 @@
 -- `calls::states::row` meets its contract. Assumes nothing.
 use mathlib.Core.Path.{refl}
-use borrow.Author.Rules.{rules}
 use borrow.Author.Tests.{eq-eqb, ne_eqb}
 use Rattle.calls.specs.States.{look_up}
 use Rattle.calls.proofs.states.row.Goals as goal
