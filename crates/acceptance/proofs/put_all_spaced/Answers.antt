@@ -22,7 +22,7 @@ pub loop-k-preserved : goal.loop-k-preserved
 loop-k-preserved c =
     let a = c.args in (
       omega arith,
-      c.put_spaced-next.auto.0 ∙ c.loop-k.invariant.1,
+      c.put_spaced-next.auto.out ∙ c.loop-k.invariant.1,
       pieces_turn (spaced a.numbers.now) a.at c.loop-k.next c.put_spaced-next.result c.loop-k.k a.out.now c.loop-k.out c.put_spaced-next.new.out
           (omega (arith, length_spaced a.numbers.now c.loop-k.k)) c.loop-k.invariant.2 c.put_spaced-next.ensures,
     )

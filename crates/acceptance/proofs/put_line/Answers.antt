@@ -8,7 +8,7 @@ use Rattle.acceptance.proofs.put_line.Goals as goal
 
 pub count_systems-counts-requires : goal.count_systems-counts-requires
 count_systems-counts-requires c =
-    (c.requires.n_bound, omega (arith, c.total-all.ensures, total_small c.args.n c.requires.n_bound))
+    record { n_bound = c.requires.n_bound; count_bound = omega (arith, c.total-all.ensures, total_small c.args.n c.requires.n_bound) }
 
 pub returns : goal.returns
 returns c =

@@ -18,13 +18,13 @@ run_of-requires c = tt
 
 pub put_line-next-requires : goal.put_line-next-requires
 put_line-next-requires c =
-    (c.requires.n_bound, omega (arith, c.requires.count_in_bounds, length_lines c.args.n c.loop-k.k))
+    record { n_bound = c.requires.n_bound; at_in_bounds = omega (arith, c.requires.count_in_bounds, length_lines c.args.n c.loop-k.k) }
 
 pub loop-k-preserved : goal.loop-k-preserved
 loop-k-preserved c =
     let a = c.args in (
       omega arith,
-      c.put_line-next.auto.0 ∙ c.loop-k.invariant.1,
+      c.put_line-next.auto.out ∙ c.loop-k.invariant.1,
       pieces_turn (λ j. line (run_of j) a.n) a.at c.loop-k.next c.put_line-next.result c.loop-k.k a.out.now c.loop-k.out c.put_line-next.new.out
           (omega (arith, c.requires.count_in_bounds, length_lines a.n c.loop-k.k)) c.loop-k.invariant.2
           (as_text (ap (λ (r : Run). line r a.n) c.run_of.ensures) c.put_line-next.ensures),

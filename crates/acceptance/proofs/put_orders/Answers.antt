@@ -13,14 +13,14 @@ pub loop-n-init : goal.loop-n-init
 loop-n-init c = (omega arith, refl, pieces_none order_lines 0 c.args.out.now)
 
 pub put_order-next-requires : goal.put_order-next-requires
-put_order-next-requires c = (omega arith, omega (arith, c.requires, length_orders c.loop-n.n))
+put_order-next-requires c = record { n_bound = omega arith; count_in_bounds = omega (arith, c.requires, length_orders c.loop-n.n) }
 
 pub loop-n-preserved : goal.loop-n-preserved
 unfolding order_lines
 loop-n-preserved c =
     let a = c.args in
     let pre = c.requires in
-    (omega arith, c.put_order-next.auto.0 ∙ c.loop-n.invariant.1, pieces_turn order_lines 0 c.loop-n.next c.put_order-next.result c.loop-n.n a.out.now c.loop-n.out c.put_order-next.new.out (omega (arith, pre, length_orders c.loop-n.n)) c.loop-n.invariant.2 c.put_order-next.ensures)
+    (omega arith, c.put_order-next.auto.out ∙ c.loop-n.invariant.1, pieces_turn order_lines 0 c.loop-n.next c.put_order-next.result c.loop-n.n a.out.now c.loop-n.out c.put_order-next.new.out (omega (arith, pre, length_orders c.loop-n.n)) c.loop-n.invariant.2 c.put_order-next.ensures)
 
 pub shape_of-out : goal.shape_of-out
 shape_of-out c = c.loop-n.invariant.1

@@ -10,7 +10,6 @@ use borrow.Author.Rules.{rules}
 use Rattle.acceptance.proofs.system_code.Goals as goal
 
 -- the entries, for which the array has room
-
 entries_are : (c : goal.After-triangle-entries) → c.triangle-entries.result ≡ triangle c.args.n
 entries_are c = c.triangle-entries.ensures ∙ ap triangle c.new.ensures.0
 
@@ -24,4 +23,4 @@ pub slice_bounds-fill_and_run-end : goal.slice_bounds-fill_and_run-end
 slice_bounds-fill_and_run-end c = length_zeros 6 c.triangle-entries.result (of_bits binary64 0) (entries_fit c.before)
 
 pub fill_and_run-requires : goal.fill_and_run-requires
-fill_and_run-requires c = (c.requires, sym (length_zeros 6 c.triangle-entries.result (of_bits binary64 0) (entries_fit c.before)) ∙ entries_are c.before)
+fill_and_run-requires c = record { n_bound = c.requires; matrix_len = sym (length_zeros 6 c.triangle-entries.result (of_bits binary64 0) (entries_fit c.before)) ∙ entries_are c.before }

@@ -13,7 +13,6 @@ use Rattle.blocked_factor.proofs.column_finite.Goals as goal
 -- the rows. Assumes nothing.
 
 -- in a turn the entry lies in the memory
-
 inside : (c : goal.In-loop-r)
     → let a = c.args in
     row_start a.width c.loop-r.r + a.s < length a.part.now

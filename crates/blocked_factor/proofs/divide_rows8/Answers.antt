@@ -44,11 +44,11 @@ pub scatter8-requires : goal.scatter8-requires
 scatter8-requires c =
     let known = c.before.before.before.before in
     let a = c.args in
-    let pre = c.requires.s0_le_s in (
-      λ k few. omega (arith, pre, place_inside known k few),
-      eight_apart a.width a.s0 a.s a.r (omega (arith, pre)) (omega (arith, pre)) (omega (arith, pre)) (λ (q : ℕ). get_or a.at q 0)
-          c.requires.by_index,
-    )
+    let pre = c.requires.s0_le_s in record {
+      by_index = λ k few. omega (arith, pre, place_inside known k few);
+      by_index_2 = eight_apart a.width a.s0 a.s a.r (omega (arith, pre)) (omega (arith, pre)) (omega (arith, pre)) (λ (q : ℕ). get_or a.at q 0)
+          c.requires.by_index;
+    }
 
 pub returns : goal.returns
 returns c =

@@ -11,7 +11,6 @@ use borrow.Author.Rules.{rules}
 use Rattle.blocked_factor.proofs.factor.Goals as goal
 
 -- past the checks
-
 passed : (c : goal.Else-not-accepted) → accepted c.check_factor-checks.result ≡ true
 passed c = accepted_of c.accepted.result c.check_factor-checks.result c.accepted.ensures c.if-not-accepted.false-raw
 

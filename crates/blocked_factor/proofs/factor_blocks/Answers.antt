@@ -24,7 +24,6 @@ loop-c-init c = (
 )
 
 -- the block column of a turn
-
 here :
     (c : goal.In-loop-c) →
     let a = c.args in
@@ -33,13 +32,13 @@ here c =
     block_at c.loop-c.c _ c.requires c.loop-c.invariant.4.kept c.loop-c-test.true (c.loop-c.invariant.1 c.loop-c-test.true)
 
 pub factor_step-step-requires : goal.factor_step-step-requires
-factor_step-step-requires c = (here c.before.before, c.loop-c.invariant.2 ∙ c.requires.work)
+factor_step-step-requires c = record { block_at = here c.before.before; work_len = c.loop-c.invariant.2 ∙ c.requires.work }
 
 pub shape_of-m-then-not-accepted : goal.shape_of-m-then-not-accepted
 shape_of-m-then-not-accepted c = c.factor_step-step.ensures.kept ∙ c.loop-c.invariant.4.kept
 
 pub shape_of-work-then-not-accepted : goal.shape_of-work-then-not-accepted
-shape_of-work-then-not-accepted c = c.factor_step-step.auto.1.0 ∙ c.loop-c.invariant.2
+shape_of-work-then-not-accepted c = c.factor_step-step.auto.work ∙ c.loop-c.invariant.2
 
 pub returns-then-not-accepted : goal.returns-then-not-accepted
 returns-then-not-accepted c =
@@ -67,7 +66,7 @@ loop-c-preserved c =
     let same = c.block_width.ensures in (
       omega (arith, same, inside_le now),
       rw (← same) at (next_first now),
-      c.factor_step-step.auto.1.0 ∙ c.loop-c.invariant.2,
+      c.factor_step-step.auto.work ∙ c.loop-c.invariant.2,
       passed,
       rw (← same) at (reached_next now c.loop-c.invariant.4 c.factor_step-step.ensures passed),
     )

@@ -8,4 +8,4 @@ use Rattle.blocked_factor.proofs.factor_blocks_cleared.Goals as goal
 pub returns : goal.returns
 returns c =
     let pre = c.requires in
-    (c.factor_blocks-judged.ensures, c.clear.ensures ∙ ap (λ k. replicate k zero64) (c.factor_blocks-judged.auto.1.0 ∙ pre.work))
+    record { blocks_done = c.factor_blocks-judged.ensures; work_after = c.clear.ensures ∙ ap (λ k. replicate k zero64) (c.factor_blocks-judged.auto.work ∙ pre.work) }

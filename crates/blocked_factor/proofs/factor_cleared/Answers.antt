@@ -11,7 +11,6 @@ use Rattle.blocked_factor.proofs.SingleColumns.{work_one, factored_one}
 use Rattle.blocked_factor.proofs.factor_cleared.Goals as goal
 
 -- the needed work where the block length is 1
-
 work_single : (c : goal.Then-shape-eq1) → let s = c.args.shape in block_work s.order s.block ≡ s.order
 work_single c = rw c.if-shape-eq1.true (work_one c.args.shape.order)
 
@@ -22,14 +21,8 @@ factor_cleared-requires c =
 
 pub returns-then-shape-eq1 : goal.returns-then-shape-eq1
 returns-then-shape-eq1 c =
-    let taken = c.before.before.before.before.before.before.before in (
-      rw c.if-shape-eq1.true (factored_one c.args.shape.order c.args.m.now c.requires.matrix c.factor_cleared.result _ c.factor_cleared.ensures.factored),
-      c.factor_cleared.ensures.1 ∙ ap (λ k. replicate k zero64) (sym (work_single taken)),
-    )
+    let taken = c.before.before.before.before.before.before.before in record { factored = rw c.if-shape-eq1.true (factored_one c.args.shape.order c.args.m.now c.requires.matrix c.factor_cleared.result _ c.factor_cleared.ensures.factored); work_after = c.factor_cleared.ensures.1 ∙ ap (λ k. replicate k zero64) (sym (work_single taken)) }
 
 pub returns : goal.returns
 returns c =
-    let several : 0 < c.args.shape.block = omega (arith, c.requires.block) in (
-      blocks_factored c.args.shape.order c.args.shape.block c.args.m.now _ c.factor_blocks_cleared.result several c.requires.matrix c.factor_blocks_cleared.ensures.blocks_done,
-      c.factor_blocks_cleared.ensures.1,
-    )
+    let several : 0 < c.args.shape.block = omega (arith, c.requires.block) in record { factored = blocks_factored c.args.shape.order c.args.shape.block c.args.m.now _ c.factor_blocks_cleared.result several c.requires.matrix c.factor_blocks_cleared.ensures.blocks_done; work_after = c.factor_blocks_cleared.ensures.1 }

@@ -11,7 +11,6 @@ use Rattle.blocked_factor.proofs.Finishing.{rest_replaced, lent_same, panel_fini
 use Rattle.blocked_factor.proofs.factor_panel.Goals as goal
 
 -- the saved entry values stay
-
 lent :
     (c : goal.After-update_panel) →
     let size = c.place_in_block-size.result in
@@ -19,7 +18,7 @@ lent :
     let spare = c.update_panel.new.spare in
     Replaced nan size (length work - size) work spare (take size work ++ (spare ++ drop (length work - size) (drop size work)))
 lent c =
-    rest_replaced c.place_in_block-size.result c.args.work.now c.update_panel.new.spare (omega (arith, c.place_in_block-size.ensures, c.requires.rows_in_bounds)) c.update_panel.auto.1.0
+    rest_replaced c.place_in_block-size.result c.args.work.now c.update_panel.new.spare (omega (arith, c.place_in_block-size.ensures, c.requires.rows_in_bounds)) c.update_panel.auto.spare
 
 pub finish_triangle-judged-requires : goal.finish_triangle-judged-requires
 finish_triangle-judged-requires c =
@@ -31,8 +30,8 @@ finish_triangle-judged-requires c =
 pub returns : goal.returns
 returns c =
     let updated = c.before.before.before.before.before.before.before.before.before.before.before.before.before in
-    let same = lent_same c.place_in_block-size.ensures (lent updated) in (
-      panel_finished (omega (arith, c.requires.g_bound)) (omega (arith, c.requires.g_bound)) same c.update_panel.ensures
-          c.finish_triangle-judged.ensures c.finish_below.ensures,
-      same,
-    )
+    let same = lent_same c.place_in_block-size.ensures (lent updated) in record {
+      columns_finished = panel_finished (omega (arith, c.requires.g_bound)) (omega (arith, c.requires.g_bound)) same c.update_panel.ensures
+          c.finish_triangle-judged.ensures c.finish_below.ensures;
+      same_to = same;
+    }

@@ -9,7 +9,6 @@ use Rattle.blocked_factor.proofs.Finishing.{same_join, columns_none, columns_joi
 use Rattle.blocked_factor.proofs.factor_panels.Goals as goal
 
 -- entry values stay. The measure is what is left of the columns. Assumes nothing.
-
 pub loop-s0-init : goal.loop-s0-init
 loop-s0-init c = (omega arith, refl, record { at = λ p low. refl }, columns_none _ _ _ _ _ _ _)
 
@@ -34,7 +33,7 @@ loop-s0-smaller c = omega (arith, c.least-g.ensures, c.loop-s0-test.true)
 pub loop-s0-preserved : goal.loop-s0-preserved
 loop-s0-preserved c = (
   omega (arith, c.least-g.ensures, c.loop-s0-test.true),
-  c.factor_panel-next.auto.1.0 ∙ c.loop-s0.invariant.1,
+  c.factor_panel-next.auto.work ∙ c.loop-s0.invariant.1,
   same_join c.loop-s0.invariant.2 c.factor_panel-next.ensures.1,
   columns_join (omega (arith, c.requires.width_le_rows)) c.loop-s0.invariant.2 c.loop-s0.invariant.3 c.factor_panel-next.ensures.columns_finished,
 )
@@ -48,4 +47,4 @@ shape_of-work c = c.loop-s0.invariant.1
 pub returns : goal.returns
 returns c =
     let all-columns : c.loop-s0.s0 ≡ c.args.width = omega (arith, c.loop-s0-test.false, c.loop-s0.invariant.0) in
-    (rw all-columns at c.loop-s0.invariant.3, c.loop-s0.invariant.2)
+    record { columns_finished = rw all-columns at c.loop-s0.invariant.3; same_to = c.loop-s0.invariant.2 }

@@ -17,7 +17,6 @@ use Rattle.blocked_factor.proofs.BlockParts.{size_le, spare_two, block_factored}
 use Rattle.blocked_factor.proofs.factor_part.Goals as goal
 
 -- the saved entry values are the front of the work memory
-
 front :
     (c : goal.After-place_in_block-size) →
     let a = c.args in
@@ -40,13 +39,9 @@ pub update_by_runs-requires : goal.update_by_runs-requires
 update_by_runs-requires c =
     let placed = c.before.before in
     let work = c.args.work.now in
-    let size = c.place_in_block-size.result in (
-      c.requires.block_at,
-      λ later. omega (arith, length_part nan size (length work - size) work (omega (arith, (front placed).1)), (front placed).0, c.requires.work_len, spare_two c.requires.block_at later),
-    )
+    let size = c.place_in_block-size.result in record { block_at = c.requires.block_at; block_in_bounds = λ later. omega (arith, length_part nan size (length work - size) work (omega (arith, (front placed).1)), (front placed).0, c.requires.work_len, spare_two c.requires.block_at later) }
 
 -- and stay
-
 lent :
     (c : goal.After-update_by_runs) →
     let size = c.place_in_block-size.result in
@@ -56,10 +51,9 @@ lent :
 lent c =
     let placed = c.before.before.before in
     rest_replaced c.place_in_block-size.result c.args.work.now c.update_by_runs.new.spare (front placed).1
-    c.update_by_runs.auto.1.0
+    c.update_by_runs.auto.spare
 
 -- the block column lies in the matrix memory
-
 room :
     (c : goal.After-update_by_runs) →
     let a = c.args in

@@ -12,7 +12,6 @@ use Rattle.blocked_factor.proofs.BlockParts.{size_le, done_accepted, done_refuse
 use Rattle.blocked_factor.proofs.factor_step.Goals as goal
 
 -- the block column's values lie in the matrix memory, and there is room for them in the work memory
-
 places :
     (c : goal.After-place_in_block-size) →
     let a = c.args in
@@ -32,7 +31,7 @@ copy_part-requires c = omega (arith, places c.before.before)
 
 pub copy_part-requires-then-not-accepted : goal.copy_part-requires-then-not-accepted
 copy_part-requires-then-not-accepted c =
-    omega (arith, places c.before.before.before.before.before.before.before.before.before.before.before.before.before.before.before.before.before, c.copy_part.ensures.size, c.factor_part-judged.auto.1.0, c.factor_part-judged.ensures.block_factored.kept)
+    omega (arith, places c.before.before.before.before.before.before.before.before.before.before.before.before.before.before.before.before.before, c.copy_part.ensures.size, c.factor_part-judged.auto.work, c.factor_part-judged.ensures.block_factored.kept)
 
 pub returns-then-not-accepted : goal.returns-then-not-accepted
 returns-then-not-accepted c =

@@ -9,7 +9,6 @@ use Rattle.blocked_factor.proofs.Finishing.{below_none, below_next}
 use Rattle.blocked_factor.proofs.finish_below.Goals as goal
 
 -- Assumes nothing.
-
 pub loop-r-init : goal.loop-r-init
 loop-r-init c = (le_refl _, omega (arith, c.requires), below_none _ _ _ _ _)
 

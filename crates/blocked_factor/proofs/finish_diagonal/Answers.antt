@@ -11,7 +11,6 @@ use borrow.Author.Rules.{rules}
 use Rattle.blocked_factor.proofs.finish_diagonal.Goals as goal
 
 -- the diagonal lies in both memories
-
 room : (c : goal.After-shared_slice_known-1)
     → let a = c.args in
     (row_start a.width a.s + a.s < length a.part.now) × (row_start a.width a.s + a.s < length a.saved.now)

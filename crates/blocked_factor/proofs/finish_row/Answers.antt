@@ -13,7 +13,6 @@ use Rattle.blocked_factor.proofs.finish_row.Goals as goal
 -- columns. Assumes nothing.
 
 -- in a turn the entry and its column's diagonal lie in the memory
-
 inside : (c : goal.In-loop-s)
     → let a = c.args in
     let s = c.loop-s.s in

@@ -8,7 +8,6 @@ use Rattle.blocked_factor.proofs.Finishing.{rows_none, rows_next}
 use Rattle.blocked_factor.proofs.finish_rows8.Goals as goal
 
 -- columns. Assumes nothing.
-
 pub row_places8-at-requires : goal.row_places8-at-requires
 row_places8-at-requires c = omega (arith, c.requires)
 
@@ -16,7 +15,7 @@ pub loop-s-init : goal.loop-s-init
 loop-s-init c = (le_refl _, omega (arith, c.requires), rows_none _ _ _ _ _)
 
 pub divide_rows8-requires : goal.divide_rows8-requires
-divide_rows8-requires c = (omega (arith, c.requires, c.loop-s-test.true, c.loop-s.invariant.0, c.loop-s.invariant.2.kept), c.row_places8-at.ensures)
+divide_rows8-requires c = record { s0_le_s = omega (arith, c.requires, c.loop-s-test.true, c.loop-s.invariant.0, c.loop-s.invariant.2.kept); by_index = c.row_places8-at.ensures }
 
 pub overflow_add-s : goal.overflow_add-s
 overflow_add-s c = omega (arith, c.requires, c.loop-s-test.true)

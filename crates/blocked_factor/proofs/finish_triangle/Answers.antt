@@ -11,12 +11,10 @@ use Rattle.blocked_factor.proofs.Finishing.{triangle_none, triangle_next}
 use Rattle.blocked_factor.proofs.finish_triangle.Goals as goal
 
 -- measure is what is left of the columns. Assumes nothing.
-
 pub loop-s-init : goal.loop-s-init
 loop-s-init c = (le_refl _, omega (arith, c.requires), triangle_none _ _ _ _ _ _ _)
 
 -- in a turn the row lies in both memories
-
 inside :
     (c : goal.In-loop-s) →
     let a = c.args in

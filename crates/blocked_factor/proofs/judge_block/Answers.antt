@@ -15,7 +15,6 @@ use borrow.Author.Rules.{rules}
 use Rattle.blocked_factor.proofs.judge_block.Goals as goal
 
 -- past the first test the overflow lies inside
-
 narrow : (c : goal.Else-s-width) → c.lowest_overflow-s.result < c.args.width
 narrow c =
     elim (dec_lt c.lowest_overflow-s.result c.args.width) [

@@ -12,7 +12,6 @@ use Rattle.blocked_factor.proofs.BlockVerdicts.{columns_finite}
 use Rattle.blocked_factor.proofs.lowest_overflow.Goals as goal
 
 -- Assumes nothing.
-
 pub place_in_block-size-requires : goal.place_in_block-size-requires
 place_in_block-size-requires c = omega (arith, c.requires)
 

@@ -13,7 +13,6 @@ use Rattle.checks.proofs.clear.Goals as goal
 -- of the length. Assumes nothing.
 
 -- `fill_more` of borrow.Author.Fill is of numbers alone
-
 module _ {A : Type 0} (v : A) where
   fill_suc : (n : ℕ) (d : List A) → n < length d → set (replicate n v ++ drop n d) n v ≡ replicate (suc n) v ++ drop (suc n) d
   fill_suc n [] h = absurd (omega arith)

@@ -12,7 +12,6 @@ use Rattle.calls.proofs.Sequences.{all_take}
 use Rattle.checks.proofs.each_finite.Goals as goal
 
 -- the length. Assumes nothing.
-
 pub loop-k-init : goal.loop-k-init
 unfolding all
 loop-k-init c = (omega arith, refl)

@@ -11,15 +11,10 @@ use lib.Ieee.{Float, nan}
 use Rattle.binary64.specs.Kinds.{finite}
 use Rattle.calls.specs.Sequences.{all}
 use Rattle.calls.proofs.Sequences.{all_take, all_parts}
+use Rattle.checks.proofs.quarters_finite.Invariants.{side_by_side}
 use Rattle.checks.proofs.quarters_finite.Goals as goal
 
 -- of the first k values of each quarter
-
-abbrev side_by_side : List Float → ℕ → ℕ → Bool
-side_by_side values quarter k =
-    all finite (take k values)
-    && (all finite (take k (drop quarter values)) && (all finite (take k (drop (2 * quarter) values)) && all finite (take k (drop (3 * quarter) values))))
-
 exchange : (a b c d : Bool) → (a && b) && (c && d) ≡ (a && c) && (b && d)
 exchange true true c d = refl
 exchange true false c d = sym (and-false c)
@@ -54,7 +49,6 @@ side_next values quarter k few room =
     new p = finite (get_or values p nan)
 
 -- the quarters whole
-
 side_all : (values : List Float) (quarter : ℕ) → side_by_side values quarter quarter ≡ all finite (take (4 * quarter) values)
 side_all values quarter =
     sym

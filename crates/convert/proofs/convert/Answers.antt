@@ -17,7 +17,6 @@ returns-then-not-accepted c =
     (refused_of _ c.check_converter-checks.result c.accepted.ensures c.if-not-accepted.true-raw))
 
 -- past the checks
-
 passed : (c : goal.Else-not-accepted) → accepted c.check_converter-checks.result ≡ true
 passed c = accepted_of _ c.check_converter-checks.result c.accepted.ensures c.if-not-accepted.false-raw
 

@@ -14,7 +14,7 @@ copy_columns-requires c =
     let n = args.shape.order in
     let own = c.rfp_columns-own.ensures in
     let normal : args.form ≡ 0 = omega arith in
-    (omega (arith, c.requires), ((omega (arith, own, rfp_columns_half n), omega (arith, own, rfp_columns_half n)), rw (normal, own) (by_columns_0 n)))
+    record { sizes = omega (arith, c.requires); left_le_right = (omega (arith, own, rfp_columns_half n), omega (arith, own, rfp_columns_half n)); by_columns = rw (normal, own) (by_columns_0 n) }
 
 pub transpose_columns-requires : goal.transpose_columns-requires
 transpose_columns-requires c =
@@ -22,21 +22,21 @@ transpose_columns-requires c =
     let n = args.shape.order in
     let own = c.rfp_columns-own.ensures in
     let normal : args.form ≡ 0 = omega arith in
-    (omega (arith, c.requires, c.copy_columns.auto), ((omega (arith, own, rfp_columns_half n), omega (arith, own, rfp_columns_half n)), rw (normal, own) (by_rows_0 n)))
+    record { sizes = omega (arith, c.requires, c.copy_columns.auto); left_le_right = (omega (arith, own, rfp_columns_half n), omega (arith, own, rfp_columns_half n)); by_rows = rw (normal, own) (by_rows_0 n) }
 
 pub transpose_columns-requires-else-form-eq0 : goal.transpose_columns-requires-else-form-eq0
 transpose_columns-requires-else-form-eq0 c =
     let args = c.args in
     let n = args.shape.order in
     let own = c.rfp_columns-own.ensures in
-    (omega (arith, c.requires), ((omega (arith, own, rfp_columns_half n), omega (arith, own, rfp_columns_half n)), rw own (by_rows_1 n args.form (λ e. omega arith))))
+    record { sizes = omega (arith, c.requires); left_le_right = (omega (arith, own, rfp_columns_half n), omega (arith, own, rfp_columns_half n)); by_rows = rw own (by_rows_1 n args.form (λ e. omega arith)) }
 
 pub copy_columns-requires-else-form-eq0 : goal.copy_columns-requires-else-form-eq0
 copy_columns-requires-else-form-eq0 c =
     let args = c.args in
     let n = args.shape.order in
     let own = c.rfp_columns-own.ensures in
-    (omega (arith, c.requires, c.transpose_columns-else-form-eq0.auto), ((omega (arith, own, rfp_columns_half n), omega (arith, own, rfp_columns_half n)), rw own (by_columns_1 n args.form (λ e. omega arith))))
+    record { sizes = omega (arith, c.requires, c.transpose_columns-else-form-eq0.auto); left_le_right = (omega (arith, own, rfp_columns_half n), omega (arith, own, rfp_columns_half n)); by_columns = rw own (by_columns_1 n args.form (λ e. omega arith)) }
 
 pub returns-then-form-eq0 : goal.returns-then-form-eq0
 returns-then-form-eq0 c =

@@ -9,7 +9,6 @@ use Rattle.text.proofs.Lists.{length_zeros}
 use Rattle.job.proofs.list_read.Goals as goal
 
 -- the arrays have room for the values of the matrix and of the right-hand sides
-
 entries_fit : (c : goal.Start) → length c.args.matrix.now ≤ 2080
 entries_fit c = omega (arith, triangle_small c.args.sizes.order c.requires.in_bounds.order, c.requires.matrix_len)
 
@@ -34,16 +33,4 @@ slice_bounds-list_floats-end-2 c =
 
 pub list_floats-requires : goal.list_floats-requires
 list_floats-requires c =
-    let start = c.before.before.before.before.before.before in (
-      c.requires.in_bounds,
-      (
-        c.requires.matrix_len,
-        (
-          c.requires.rhs_len,
-          (
-            length_zeros 2080 (length c.args.matrix.now) (of_bits binary64 0) (entries_fit start),
-            (length_zeros 1024 (length c.args.rhs.now) (of_bits binary64 0) (values_fit start), c.requires.max_listing_in_bounds),
-          ),
-        ),
-      ),
-    )
+    let start = c.before.before.before.before.before.before in record { in_bounds = c.requires.in_bounds; matrix_len = c.requires.matrix_len; rhs_len = c.requires.rhs_len; matrix_len_2 = length_zeros 2080 (length c.args.matrix.now) (of_bits binary64 0) (entries_fit start); rhs_len_2 = length_zeros 1024 (length c.args.rhs.now) (of_bits binary64 0) (values_fit start); max_listing_in_bounds = c.requires.max_listing_in_bounds }

@@ -9,7 +9,6 @@ use borrow.Author.Rules.{rules}
 use Rattle.job.proofs.list_values.Goals as goal
 
 -- the arrays have room for the values of the matrix and of the right-hand sides
-
 entries_fit : (c : goal.After-triangle-entries) → c.triangle-entries.result ≤ 2080
 entries_fit c =
     omega (arith, ap triangle c.new.ensures.0, triangle_small c.args.sizes.order c.requires.in_bounds.order)
@@ -37,14 +36,10 @@ slice_bounds-list_contents-end-2 c =
 pub list_contents-requires : goal.list_contents-requires
 list_contents-requires c =
     let start = c.before.before.before.before.before.before.before.before in
-    let entries = c.before.before.before.before in (
-      c.requires.in_bounds,
-      (
-        sym (length_zeros 2080 c.triangle-entries.result 0 (entries_fit entries))
-            ∙ c.triangle-entries.ensures ∙ ap triangle c.new.ensures.0,
-        (
-          sym (length_zeros 1024 (c.args.sizes.order * c.args.sizes.count) 0 (values_fit start)),
-          c.requires.max_listing_in_bounds,
-        ),
-      ),
-    )
+    let entries = c.before.before.before.before in record {
+      in_bounds = c.requires.in_bounds;
+      matrix_len = sym (length_zeros 2080 c.triangle-entries.result 0 (entries_fit entries))
+          ∙ c.triangle-entries.ensures ∙ ap triangle c.new.ensures.0;
+      rhs_len = sym (length_zeros 1024 (c.args.sizes.order * c.args.sizes.count) 0 (values_fit start));
+      max_listing_in_bounds = c.requires.max_listing_in_bounds;
+    }

@@ -18,12 +18,12 @@ put_end-requires c = omega (arith, end_short c.in-Fault.fault.code c.in-Fault.fa
 
 pub list_values-requires : goal.list_values-requires
 list_values-requires c =
-    let a = c.args in (
-      sizes_bounds a.file.now c.in-Found.sizes c.in-Found.at
+    let a = c.args in record {
+      in_bounds = sizes_bounds a.file.now c.in-Found.sizes c.in-Found.at
           (sym (sym (ap parsed_sizes c.in-Found.is) ∙
-          c.read_sizes.ensures)),
-      c.if-out-lt-LISTING.false,
-    )
+          c.read_sizes.ensures));
+      max_listing_in_bounds = c.if-out-lt-LISTING.false;
+    }
 
 pub returns-in-Fault : goal.returns-in-Fault
 returns-in-Fault c =

@@ -10,7 +10,6 @@ use borrow.Author.Rules.{rules}
 use Rattle.job.proofs.solve_job.Goals as goal
 
 -- Assumes nothing.
-
 pub returns-then-checked-ne0 : goal.returns-then-checked-ne0
 returns-then-checked-ne0 c = refused_by_7 _ _ _ _ c.if-checked-ne0.true c.check_finite-checked.ensures
 
@@ -18,7 +17,6 @@ pub returns-then-checked-ne0-2 : goal.returns-then-checked-ne0-2
 returns-then-checked-ne0-2 c = refused_by_8 _ _ _ _ c.if-checked-ne0-2.true c.check_finite-checked.result c.check_finite-checked.ensures c.if-checked-ne0.false c.check_finite-checked-2.ensures
 
 -- the needed work memory, for which the array has room
-
 work_needed : (c : goal.After-block_work-needed) → let s = c.args.sizes in c.block_work-needed.result ≡ block_work s.order s.block
 work_needed c = rw (← c.new.ensures.0, ← c.new.ensures.1) c.block_work-needed.ensures
 

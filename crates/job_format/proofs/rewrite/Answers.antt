@@ -11,7 +11,7 @@ use Rattle.job_format.proofs.rewrite.Goals as goal
 pub rewrite_contents-requires : goal.rewrite_contents-requires
 rewrite_contents-requires c =
     let a = c.args in
-    (sizes_bounds a.file.now c.in-Found.sizes c.in-Found.at (sym (sym (ap parsed_sizes c.in-Found.is) ∙ c.read_sizes.ensures)), omega arith)
+    record { in_bounds = sizes_bounds a.file.now c.in-Found.sizes c.in-Found.at (sym (sym (ap parsed_sizes c.in-Found.is) ∙ c.read_sizes.ensures)); max_job_in_bounds = omega arith }
 
 pub returns-in-Fault : goal.returns-in-Fault
 returns-in-Fault c =

@@ -8,7 +8,6 @@ use Rattle.kernels.proofs.Loops.{Stored, stored_none, stored_next}
 use Rattle.kernels.proofs.packed_places8.Goals as goal
 
 -- left. Assumes nothing.
-
 pub loop-k-init : goal.loop-k-init
 loop-k-init c = (omega arith, refl, stored_none 0 _ _)
 

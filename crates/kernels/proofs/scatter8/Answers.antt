@@ -23,7 +23,7 @@ bounds-v-at c = omega (arith, c.loop-s.invariant.1.size, c.requires.by_index c.l
 pub loop-s-preserved : goal.loop-s-preserved
 loop-s-preserved c = (
   omega arith,
-  scattered_next (λ (q : ℕ). get_or c.args.t2 q 0 + c.args.k) (λ (q : ℕ). get_or c.args.t4 q nan) c.args.v.now c.loop-s.s c.loop-s.v _
+  scattered_next (λ (q : ℕ). get_or c.args.at q 0 + c.args.k) (λ (q : ℕ). get_or c.args.values q nan) c.args.v.now c.loop-s.s c.loop-s.v _
       (c.requires.by_index c.loop-s.s c.loop-s-test.true)
       (λ q h e. let same : q ≡ c.loop-s.s = c.requires.by_index_2 q c.loop-s.s (omega arith) c.loop-s-test.true (omega arith) in omega arith) c.loop-s.invariant.1 refl,
 )

@@ -8,4 +8,4 @@ use Rattle.plain_factor.proofs.factor_cleared.Goals as goal
 pub returns : goal.returns
 returns c =
     let pre = c.requires in
-    (c.factor_columns-judged.ensures, c.clear.ensures ∙ ap (λ k. replicate k zero64) (c.factor_columns-judged.auto.1.0 ∙ pre.2))
+    record { factored = c.factor_columns-judged.ensures; work_after = c.clear.ensures ∙ ap (λ k. replicate k zero64) (c.factor_columns-judged.auto.work ∙ pre.2) }

@@ -13,7 +13,6 @@ use Rattle.plain_factor.proofs.Prefixes.{prefix_of, rule_of, exact_of, prefix_no
 use Rattle.plain_factor.proofs.factor_columns.Goals as goal
 
 -- what is left of the columns. Assumes nothing.
-
 pub loop-j-init : goal.loop-j-init
 unfolding lowest_refusal every
 loop-j-init c = (
@@ -32,22 +31,18 @@ next_top-next-requires c = c.loop-j-test.true
 
 pub factor_column-column-requires : goal.factor_column-column-requires
 factor_column-column-requires c =
-    let pre = c.requires in (
-      record { order = pre.0; column = c.loop-j-test.true; size = c.loop-j.invariant.2 ∙ pre.1 },
-      (c.loop-j.invariant.1, (record { here = c.loop-j.invariant.6; after = c.next_top-next.ensures.room; one = c.next_top-next.ensures.1 }, c.loop-j.invariant.7)),
-    )
+    let pre = c.requires in record { column = record { order = pre.0; column = c.loop-j-test.true; size = c.loop-j.invariant.2 ∙ pre.1 }; work_len = c.loop-j.invariant.1; tops = record { here = c.loop-j.invariant.6; after = c.next_top-next.ensures.room; one = c.next_top-next.ensures.1 }; waiting = c.loop-j.invariant.7 }
 
 pub shape_of-matrix-then-not-accepted : goal.shape_of-matrix-then-not-accepted
 shape_of-matrix-then-not-accepted c =
-    c.factor_column-column.auto.0 ∙ c.loop-j.invariant.2
+    c.factor_column-column.auto.matrix ∙ c.loop-j.invariant.2
 
 pub shape_of-work-then-not-accepted : goal.shape_of-work-then-not-accepted
 shape_of-work-then-not-accepted c =
     let pre = c.requires in
-    c.factor_column-column.auto.1.0 ∙ c.loop-j.invariant.1 ∙ sym pre.2
+    c.factor_column-column.auto.work ∙ c.loop-j.invariant.1 ∙ sym pre.2
 
 -- a turn that is tested: what its columns are judged to
-
 turn : (c : goal.After-accepted)
     → c.joined-joined.result
     ≡ judged_to (rule_of c.args.n c.args.matrix.now) (exact_of c.args.n c.args.matrix.now)
@@ -77,8 +72,8 @@ loop-j-preserved c =
     (accepted_of c.accepted.result c.joined-joined.result.verdict c.accepted.ensures c.if-not-accepted.false-raw)
     in (
       omega arith,
-      c.factor_column-column.auto.1.0 ∙ c.loop-j.invariant.1,
-      c.factor_column-column.auto.0 ∙ c.loop-j.invariant.2,
+      c.factor_column-column.auto.work ∙ c.loop-j.invariant.1,
+      c.factor_column-column.auto.matrix ∙ c.loop-j.invariant.2,
       next.0,
       next.1,
       turn c.before,

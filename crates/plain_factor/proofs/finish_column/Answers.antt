@@ -18,7 +18,6 @@ use Rattle.plain_factor.proofs.finish_column.Goals as goal
 -- nothing.
 
 -- the diagonal value lies in the matrix
-
 place : (c : goal.After-row_start) → let a = c.args in c.row_start.result + a.j ≡ packed_place a.n a.j a.j
 place c = let a = c.args in omega (arith, c.row_start.ensures, row_place_lem a.n a.j a.j)
 
@@ -42,14 +41,13 @@ judge_column-judged-requires c = sym c.in-Root.is ∙ c.judge-pivot.ensures
 
 pub returns-in-Refused : goal.returns-in-Refused
 returns-in-Refused c =
-    let a = c.args in (
-      pivot_refused a.n a.j a.matrix.now a.work.now c.requires.column c.requires.work_len c.requires.reduced c.judge-pivot.ensures
-          c.in-Refused.is (rw (place c.before.before.before.before.before.before) at c.judge_column.ensures),
-      λ p low h. refl,
-    )
+    let a = c.args in record {
+      judged = pivot_refused a.n a.j a.matrix.now a.work.now c.requires.column c.requires.work_len c.requires.reduced c.judge-pivot.ensures
+          c.in-Refused.is (rw (place c.before.before.before.before.before.before) at c.judge_column.ensures);
+      same = λ p low h. refl;
+    }
 
 -- with a pivot that passes, m being the matrix that is left
-
 judged : {m : List Float} (c : goal.After-judge_column-judged)
     → let a = c.args in
     let written = store_column (packed_place a.n) a.j (drop a.j c.divide_rows-finite.new.work) a.matrix.now in
@@ -59,17 +57,17 @@ judged c stored =
     let a = c.args in
     let root = c.pivot-1.given in
     column_judged a.n a.j a.matrix.now a.work.now c.requires.column c.requires.work_len c.requires.reduced root.0.0 root.0.1.0 c.divide_rows-finite.new.work
-    c.divide_rows-finite.result (sym root.1 ∙ c.judge-pivot.ensures) (c.divide_rows-finite.auto.0 ∙ c.requires.work_len) c.divide_rows-finite.ensures
+    c.divide_rows-finite.result (sym root.1 ∙ c.judge-pivot.ensures) (c.divide_rows-finite.auto.work ∙ c.requires.work_len) c.divide_rows-finite.ensures
     (rw (place c.before.before.before.before.before.before.before.before.before.before.before) at c.judge_column-judged.ensures) stored
 
 pub returns-then-accepted : goal.returns-then-accepted
 returns-then-accepted c =
     let verdict = c.before.before.before.before.before.before.before.before in
     let yes = sym c.accepted.ensures ∙ c.if-accepted.true in
-    (judged verdict (rw yes c.store_column.ensures), c.divide_rows-finite.ensures.before)
+    record { judged = judged verdict (rw yes c.store_column.ensures); same = c.divide_rows-finite.ensures.before }
 
 pub returns-else-accepted : goal.returns-else-accepted
 returns-else-accepted c =
     let verdict = c.before.before.before in
     let no = sym c.accepted.ensures ∙ c.if-accepted.false in
-    (judged verdict (rw no), c.divide_rows-finite.ensures.before)
+    record { judged = judged verdict (rw no); same = c.divide_rows-finite.ensures.before }

@@ -9,7 +9,7 @@ pub reduce_pair-requires : goal.reduce_pair-requires
 reduce_pair-requires c = (
   c.requires.column,
   (
-    c.load_waiting.auto.0 ∙ c.load_column.auto.0 ∙ c.requires.work_len,
+    c.load_waiting.auto.work ∙ c.load_column.auto.work ∙ c.requires.work_len,
     (
       c.requires.room,
       (λ i low h. c.load_waiting.ensures.1 i (omega arith) h ∙ c.load_column.ensures.reduced i (omega arith) h, c.load_waiting.ensures.waiting),
@@ -21,7 +21,7 @@ pub reduce_column-requires : goal.reduce_column-requires
 reduce_column-requires c = (
   c.requires.column,
   (
-    (c.reduce_pair.auto.0 ∙ c.load_waiting.auto.0 ∙ c.load_column.auto.0 ∙ c.requires.work_len, omega arith, omega arith),
+    (c.reduce_pair.auto.work ∙ c.load_waiting.auto.work ∙ c.load_column.auto.work ∙ c.requires.work_len, omega arith, omega arith),
     λ i low h.
         c.reduce_pair.ensures.1.1 i (omega arith) h ∙ c.load_waiting.ensures.1 i (omega arith) (omega arith)
         ∙ c.load_column.ensures.reduced i low (omega arith),

@@ -8,7 +8,7 @@ use Rattle.plain_factor.proofs.form_waiting.Goals as goal
 pub reduce_column-requires : goal.reduce_column-requires
 reduce_column-requires c = (
   c.requires.column,
-  ((c.load_column.auto.0 ∙ c.take_waiting.auto.0 ∙ c.requires.work_len, omega arith, omega arith), c.load_column.ensures.reduced),
+  ((c.load_column.auto.work ∙ c.take_waiting.auto.work ∙ c.requires.work_len, omega arith, omega arith), c.load_column.ensures.reduced),
 )
 
 pub returns : goal.returns

@@ -43,10 +43,10 @@ shape_of-work c = c.loop-i.invariant.2.size
 pub returns : goal.returns
 returns c =
     let a = c.args in
-    let value : ℕ → Float = λ p. get_or a.matrix.now (c.row_start-base.result + p) nan in (
-      λ i low h.
+    let value : ℕ → Float = λ p. get_or a.matrix.now (c.row_start-base.result + p) nan in record {
+      reduced = λ i low h.
           filled_here nan value c.loop-i.invariant.2 i low (omega arith)
           ∙ ap (λ b. get_or a.matrix.now (b + i) nan) c.row_start-base.ensures
-          ∙ reduced_none a.n a.matrix.now a.j i,
-      λ p low h. c.loop-i.invariant.2.after p (omega arith),
-    )
+          ∙ reduced_none a.n a.matrix.now a.j i;
+      same = λ p low h. c.loop-i.invariant.2.after p (omega arith);
+    }

@@ -42,10 +42,10 @@ shape_of-work c = c.loop-i.invariant.2.size
 
 pub returns : goal.returns
 returns c =
-    let a = c.args in (
-      λ r h.
+    let a = c.args in record {
+      waiting = λ r h.
           c.loop-i.invariant.2.done r (omega arith)
           ∙ ap (λ b. get_or a.matrix.now (b + (a.top + r)) nan) c.row_start-base.ensures
-          ∙ reduced_none a.n a.matrix.now (a.j + 1) (a.top + r),
-      λ p low h. c.loop-i.invariant.2.rest p (omega arith),
-    )
+          ∙ reduced_none a.n a.matrix.now (a.j + 1) (a.top + r);
+      same = λ p low h. c.loop-i.invariant.2.rest p (omega arith);
+    }

@@ -19,13 +19,13 @@ row_start-base-requires c =
 
 pub reduce_group-requires : goal.reduce_group-requires
 reduce_group-requires c =
-    (c.requires.column, (record { high = c.group_count-count.ensures.1; start = c.row_start-base.ensures }, (c.loop-k.invariant.1, c.requires.work_len.1, c.requires.work_len.2)))
+    record { column = c.requires.column; group = record { high = c.group_count-count.ensures.1; start = c.row_start-base.ensures }; work_len = (c.loop-k.invariant.1, c.requires.work_len.1, c.requires.work_len.2) }
 
 pub loop-k-preserved : goal.loop-k-preserved
 loop-k-preserved c =
     let a = c.args in (
       c.group_count-count.ensures.1,
-      c.reduce_group.auto.0 ∙ c.loop-k.invariant.1,
+      c.reduce_group.auto.work ∙ c.loop-k.invariant.1,
       λ i low h.
           c.reduce_group.ensures.rows i low h ∙ reduced_more a.n a.matrix.now a.j c.loop-k.k c.group_count-count.result i _ (c.loop-k.invariant.2 i low h),
       λ p low h. c.reduce_group.ensures.before p low h ∙ c.loop-k.invariant.3 p low h,
@@ -38,4 +38,4 @@ shape_of-work c = c.loop-k.invariant.1 ∙ sym c.requires.work_len.0
 pub returns : goal.returns
 returns c =
     let e : c.loop-k.k ≡ c.args.j = omega arith in
-    (rw e at c.loop-k.invariant.2, (c.loop-k.invariant.3, c.loop-k.invariant.4))
+    record { reduced_2 = rw e at c.loop-k.invariant.2; same = c.loop-k.invariant.3; same_2 = c.loop-k.invariant.4 }

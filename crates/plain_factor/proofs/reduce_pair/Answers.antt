@@ -19,14 +19,14 @@ row_start-base-requires c =
 
 pub reduce_pair_tiles-requires : goal.reduce_pair_tiles-requires
 reduce_pair_tiles-requires c =
-    (c.requires.column, (record { high = c.group_count-count.ensures.1; start = c.row_start-base.ensures }, (c.loop-k.invariant.1, c.requires.room)))
+    record { column = c.requires.column; group = record { high = c.group_count-count.ensures.1; start = c.row_start-base.ensures }; work_len = c.loop-k.invariant.1; room = c.requires.room }
 
 pub loop-k-preserved : goal.loop-k-preserved
 loop-k-preserved c =
     let a = c.args in
     let count = c.group_count-count.result in (
       c.group_count-count.ensures.1,
-      c.reduce_pair_tiles.auto.0 ∙ c.loop-k.invariant.1,
+      c.reduce_pair_tiles.auto.work ∙ c.loop-k.invariant.1,
       λ i low h. c.reduce_pair_tiles.ensures.column i low (omega arith) ∙ reduced_more a.n a.matrix.now a.j c.loop-k.k count i _ (c.loop-k.invariant.2 i low h),
       λ r h. c.reduce_pair_tiles.ensures.front r (omega arith) ∙ reduced_more a.n a.matrix.now (a.j + 1) c.loop-k.k count (a.top + r) _ (c.loop-k.invariant.3 r h),
       λ p low h. c.reduce_pair_tiles.ensures.between p low h ∙ c.loop-k.invariant.4 p low h,
@@ -38,4 +38,4 @@ shape_of-work c = c.loop-k.invariant.1 ∙ sym c.requires.work_len
 pub returns : goal.returns
 returns c =
     let e : c.loop-k.k ≡ c.args.j = omega arith in
-    (rw e at c.loop-k.invariant.2, (rw e at c.loop-k.invariant.3, c.loop-k.invariant.4))
+    record { reduced_2 = rw e at c.loop-k.invariant.2; waiting_2 = rw e at c.loop-k.invariant.3; same = c.loop-k.invariant.4 }

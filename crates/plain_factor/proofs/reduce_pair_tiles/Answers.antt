@@ -20,7 +20,7 @@ loop-i-init c =
 
 pub reduce_part-requires : goal.reduce_part-requires
 reduce_part-requires c =
-    (c.requires.column, (c.requires.group, (omega arith, omega arith)))
+    record { column = c.requires.column; group = c.requires.group; i_bound = (omega arith, omega arith) }
 
 pub reduce_part-requires-in-loop-i : goal.reduce_part-requires-in-loop-i
 reduce_part-requires-in-loop-i c = (
@@ -35,7 +35,7 @@ loop-i-preserved c =
       omega arith,
       omega arith,
       omega arith,
-      c.reduce_part-in-loop-i.auto.0 ∙ c.reduce_part.auto.0 ∙ c.loop-i.invariant.3,
+      c.reduce_part-in-loop-i.auto.work ∙ c.reduce_part.auto.work ∙ c.loop-i.invariant.3,
       pair_next a.n a.matrix.now a.j a.k a.count a.top c.loop-i.i a.work.now c.loop-i.work c.reduce_part.new.work
           c.reduce_part-in-loop-i.new.work (omega arith) (omega arith) (omega (arith, room.low, room.room)) c.loop-i.invariant.4 c.reduce_part.ensures c.reduce_part-in-loop-i.ensures,
     )

@@ -13,7 +13,7 @@ pub loop-i-init : goal.loop-i-init
 loop-i-init c = (omega arith, omega arith, rw sub_self (filled_none nan c.args.j _ c.args.work.now))
 
 pub reduce_row-requires : goal.reduce_row-requires
-reduce_row-requires c = (c.requires.column, (c.requires.group, omega arith))
+reduce_row-requires c = record { column = c.requires.column; group = c.requires.group; i_lt_n = omega arith }
 
 pub loop-i-preserved : goal.loop-i-preserved
 loop-i-preserved c =

@@ -16,7 +16,6 @@ loop-c-init c =
     (omega arith, rw add-zero c.requires.group.start, λ r h. less_none a.n a.matrix.now a.j a.k (a.i + r) (get_or a.tile r nan))
 
 -- in a turn a row of column k + c stands in the memory, at a place that fits
-
 inside : (c : goal.In-loop-c) (i : ℕ)
     → i < c.args.n
     → let p = c.loop-c.start + i in

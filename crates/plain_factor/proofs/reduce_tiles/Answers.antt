@@ -16,7 +16,7 @@ loop-i-init c =
 
 pub reduce_part-requires : goal.reduce_part-requires
 reduce_part-requires c =
-    (c.requires.column, (c.requires.group, (omega arith, omega arith)))
+    record { column = c.requires.column; group = c.requires.group; i_bound = (omega arith, omega arith) }
 
 pub loop-i-preserved : goal.loop-i-preserved
 loop-i-preserved c =

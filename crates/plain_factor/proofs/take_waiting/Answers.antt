@@ -15,7 +15,6 @@ row_start-last-requires c =
     (c.requires.column.order, omega arith, omega arith)
 
 -- a row of column j − 1 stands in the memory, at a place that fits
-
 inside : (c : goal.After-row_start-last) (i : ℕ)
     → i < c.args.n
     → let p = c.row_start-last.result + i in

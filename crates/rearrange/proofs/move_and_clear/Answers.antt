@@ -8,4 +8,4 @@ use Rattle.rearrange.proofs.move_and_clear.Goals as goal
 
 pub returns : goal.returns
 returns c =
-    (c.move_blocks.ensures, c.clear.ensures ∙ ap (λ (n : ℕ). replicate n zero64) c.move_blocks.auto.1.1.1.0)
+    record { matrix_after = c.move_blocks.ensures; work_after = c.clear.ensures ∙ ap (λ (n : ℕ). replicate n zero64) c.move_blocks.auto.work }

@@ -11,7 +11,6 @@ use Rattle.rearrange.proofs.Blocks.{MovedBefore, part_sizes, moved_before_first,
 use Rattle.rearrange.proofs.move_blocks.Goals as goal
 
 -- from there on as they were. The measure is the number of columns left. Assumes nothing.
-
 pub loop-c-init : goal.loop-c-init
 loop-c-init c =
     let args = c.args in (
@@ -22,7 +21,6 @@ loop-c-init c =
     )
 
 -- the block column starts inside the matrix
-
 inside : (c : goal.After-block_start-at) → c.block_start-at.result ≤ length c.loop-c.matrix
 inside c =
     let n = c.args.shape.order in
@@ -54,7 +52,7 @@ loop-c-preserved c =
       block_of_next args.shape.block c.loop-c.c (omega arith) c.loop-c.invariant.2,
       moved_before_next args.to args.shape.order args.shape.block c.loop-c.c c.block_start-at.result c.new-part.result.order c.new-part.result.block
           args.matrix.now c.loop-c.matrix c.move_block.new.memory (omega arith) left c.loop-c.invariant.2 c.block_start-at.ensures c.new-part.ensures.0 width
-          (omega arith) c.move_block.auto.1.1.0 c.loop-c.invariant.3 c.move_block.ensures,
+          (omega arith) c.move_block.auto.memory c.loop-c.invariant.3 c.move_block.ensures,
     )
 
 pub returns : goal.returns

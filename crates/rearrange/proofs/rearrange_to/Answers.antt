@@ -17,7 +17,6 @@ use Rattle.rearrange.proofs.rearrange_to.Goals as goal
 -- Assumes nothing.
 
 -- the checks, by the layout that is left
-
 checked : (c : goal.After-check_rearranger-checks)
     → let args = c.args in
     c.check_rearranger-checks.result ≡ rearranger_checks (other args.to) args.to args.shape (length args.matrix.now) (length args.work.now)
@@ -31,7 +30,6 @@ returns-then-not-accepted c =
     (refused_of _ c.check_rearranger-checks.result c.accepted.ensures c.if-not-accepted.true-raw))
 
 -- past the checks
-
 passed : (c : goal.Else-not-accepted) → accepted c.check_rearranger-checks.result ≡ true
 passed c = accepted_of _ c.check_rearranger-checks.result c.accepted.ensures c.if-not-accepted.false-raw
 
@@ -60,7 +58,7 @@ move_and_clear-requires c =
     let known = sizes c.before.before.before in
     let args = c.args in
     let lent = length-take-le c.block_work-needed.result args.work.now (fits c.before.before) in
-    ((known.order, known.block_low tt, known.block_high tt), (known.matrix, omega (arith, c.block_work-needed.ensures, lent)))
+    record { order_le_max_order = (known.order, known.block_low tt, known.block_high tt); matrix_len = known.matrix; block_in_bounds = omega (arith, c.block_work-needed.ensures, lent) }
 
 pub returns : goal.returns
 returns c =

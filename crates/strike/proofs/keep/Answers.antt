@@ -76,7 +76,6 @@ listed c =
     rule20_accepted c.args.n c.args.list.now (rw c.requires.list_value tt)
 
 -- q is at most u
-
 count : (c : goal.At-loop-u) → length (kept c.args.list.now c.loop-u.u) + c.loop-u.q ≡ c.loop-u.u
 count c =
     kept_count c.args.n c.args.list.now (listed c) c.loop-u.u c.loop-u.q c.loop-u.invariant.0 c.loop-u.invariant.2

@@ -11,7 +11,6 @@ use Rattle.strike.proofs.Columns.{row_le_place, order_le, entry_of, ColumnsMoved
 use Rattle.strike.proofs.move_columns.Goals as goal
 
 -- c goes. The measure is the number of columns left. Assumes nothing.
-
 pub loop-c-init : goal.loop-c-init
 loop-c-init c = (omega arith, sym (block_start_zero _), refl, none_moved _ _ _)
 
@@ -25,10 +24,9 @@ on_diagonal c =
     (record { lower = omega arith; inside = c.loop-c-test.true })
 
 pub packed_place-requires : goal.packed_place-requires
-packed_place-requires c = (c.requires.order_le_max_order.0, on_diagonal c.before)
+packed_place-requires c = record { order_le_max_order = c.requires.order_le_max_order.0; entry = on_diagonal c.before }
 
 -- row 0 of the column would be at `base`
-
 base_le :
     (c : goal.After-packed_place) →
     get_or c.args.unknowns.now c.loop-c.c 0 ≤ c.packed_place.result
@@ -49,18 +47,15 @@ first c = omega (arith, base_le c, c.packed_place.ensures)
 
 pub move_column-requires : goal.move_column-requires
 move_column-requires c =
-    let size : length c.loop-c.matrix ≡ triangle c.args.shape.order = c.loop-c.invariant.2 ∙ c.requires.order_le_max_order.1 in (
-      c.loop-c.invariant.0,
-      (
-        rw size
-            (column_ahead c.args.shape.order c.args.unknowns.now c.requires.unknowns c.loop-c.c _ c.loop-c.to c.loop-c-test.true (first c.before)
-            c.loop-c.invariant.1),
-        c.requires.unknowns.rising,
-      ),
-    )
+    let size : length c.loop-c.matrix ≡ triangle c.args.shape.order = c.loop-c.invariant.2 ∙ c.requires.order_le_max_order.1 in record {
+      at_in_bounds = c.loop-c.invariant.0;
+      ahead = rw size
+          (column_ahead c.args.shape.order c.args.unknowns.now c.requires.unknowns c.loop-c.c _ c.loop-c.to c.loop-c-test.true (first c.before)
+          c.loop-c.invariant.1);
+      rising = c.requires.unknowns.rising;
+    }
 
 -- where the next column goes
-
 next :
     (c : goal.After-move_column) →
     c.loop-c.to + (length c.args.unknowns.now - c.loop-c.c) ≡ block_start (length c.args.unknowns.now) (c.loop-c.c + 1)
@@ -89,7 +84,4 @@ shape_of-matrix c = c.loop-c.invariant.2
 pub returns : goal.returns
 returns c =
     let p = length c.args.unknowns.now in
-    let end : c.loop-c.c ≡ p = omega arith in (
-      c.loop-c.invariant.1 ∙ ap (block_start p) end ∙ sym (triangle_columns p),
-      all_moved c.args.shape.order c.args.unknowns.now c.requires.unknowns c.args.matrix.now c.loop-c.matrix (c.loop-c.invariant.2 ∙ c.requires.order_le_max_order.1) (rw end at c.loop-c.invariant.3),
-    )
+    let end : c.loop-c.c ≡ p = omega arith in record { value = c.loop-c.invariant.1 ∙ ap (block_start p) end ∙ sym (triangle_columns p); fresh = all_moved c.args.shape.order c.args.unknowns.now c.requires.unknowns c.args.matrix.now c.loop-c.matrix (c.loop-c.invariant.2 ∙ c.requires.order_le_max_order.1) (rw end at c.loop-c.invariant.3) }

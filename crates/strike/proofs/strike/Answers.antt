@@ -18,7 +18,6 @@ returns-then-not-accepted c =
     (refused_of _ c.check_strike-checks.result c.accepted.ensures c.if-not-accepted.true-raw))
 
 -- past the checks
-
 passed : (c : goal.Else-not-accepted) → accepted c.check_strike-checks.result ≡ true
 passed c = accepted_of _ c.check_strike-checks.result c.accepted.ensures c.if-not-accepted.false-raw
 
@@ -31,7 +30,7 @@ pub strike_list-requires : goal.strike_list-requires
 strike_list-requires c =
     let a = c.args in
     let known = sizes c.before in
-    ((known.order, known.matrix), rule20_passes a.shape.order a.list.now known.listed)
+    record { order_le_max_order = (known.order, known.matrix); list_value = rule20_passes a.shape.order a.list.now known.listed }
 
 pub overflow_sub-smaller : goal.overflow_sub-smaller
 overflow_sub-smaller c =

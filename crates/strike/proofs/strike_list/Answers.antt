@@ -13,7 +13,6 @@ use Rattle.strike.proofs.Results.{kept_unknowns, struck_of}
 use Rattle.strike.proofs.strike_list.Goals as goal
 
 -- the list and the unknowns kept are n together
-
 together : (s : goal.Start) → length (kept s.args.list.now s.args.shape.order) + length s.args.list.now ≡ s.args.shape.order
 together s = length_kept s.args.shape.order s.args.list.now (rule20_accepted s.args.shape.order s.args.list.now (rw s.requires.list_value tt))
 
@@ -27,10 +26,9 @@ slice_bounds-move_columns-end c =
 pub move_columns-size-requires : goal.move_columns-size-requires
 move_columns-size-requires c =
     let n = c.args.shape.order in
-    (c.requires.order_le_max_order, subst (Unknowns n) (sym c.keep.ensures) (kept_unknowns c.args.list.now n))
+    record { order_le_max_order = c.requires.order_le_max_order; unknowns = subst (Unknowns n) (sym c.keep.ensures) (kept_unknowns c.args.list.now n) }
 
 -- what was moved are the entries of the unknowns kept
-
 module _ (c : goal.After-move_columns-size) where
   abbrev s : tie.Start
   s = c.before.before.before.before.before.before.before.before.before
@@ -59,7 +57,7 @@ returns c =
     let n = a.shape.order in
     let list = a.list.now in
     let m = c.move_columns-size.new.matrix in
-    struck_of list n c.move_columns-size.result a.matrix.now m c.clear.new.part (size_kept moved) c.move_columns-size.auto.1.1.0
+    struck_of list n c.move_columns-size.result a.matrix.now m c.clear.new.part (size_kept moved) c.move_columns-size.auto.matrix
     (omega (arith, size_le moved, c.move_columns-size.auto))
     (subst (λ xs. Fresh xs n a.matrix.now (take (triangle (length xs)) m)) c.keep.ensures c.move_columns-size.ensures.1)
     c.clear.ensures

@@ -9,8 +9,8 @@ use Rattle.text.proofs.put_decimal.Goals as goal
 
 pub put_text-requires : goal.put_text-requires
 put_text-requires c =
-    omega (arith, ap length (tail_text c.decimal_digits-start.new.buffer c.decimal_digits-start.result c.args.n c.decimal_digits-start.auto.0 c.decimal_digits-start.ensures.0 c.decimal_digits-start.ensures.1))
+    omega (arith, ap length (tail_text c.decimal_digits-start.new.buffer c.decimal_digits-start.result c.args.n c.decimal_digits-start.auto.buffer c.decimal_digits-start.ensures.0 c.decimal_digits-start.ensures.1))
 
 pub returns : goal.returns
 returns c =
-    as_text (tail_text c.decimal_digits-start.new.buffer c.decimal_digits-start.result c.args.n c.decimal_digits-start.auto.0 c.decimal_digits-start.ensures.0 c.decimal_digits-start.ensures.1) c.put_text.ensures
+    as_text (tail_text c.decimal_digits-start.new.buffer c.decimal_digits-start.result c.args.n c.decimal_digits-start.auto.buffer c.decimal_digits-start.ensures.0 c.decimal_digits-start.ensures.1) c.put_text.ensures

@@ -8,7 +8,6 @@ use Rattle.binary64.proofs.root.integer_root.Goals as goal
 use Rattle.binary64.proofs.root.integer_root.Goals.{then-remainder-root, else-remainder-root}
 
 -- Assumes nothing.
-
 root_lt : (c : goal.In-loop-i) → c.loop-i.root < 2 ^ 53
 root_lt c =
     digits_lt c.args.s c.loop-i.i c.loop-i.rest c.loop-i.root c.loop-i.remainder
@@ -42,8 +41,8 @@ pub loop-i-preserved : goal.loop-i-preserved
 loop-i-preserved c =
     let s = c.args.s in
     elim c.if-remainder-root.branch [
-      then-remainder-root w ↦ (omega arith, rw (w.root-is, w.remainder-is) (digit_one s c.loop-i.i c.loop-i.rest c.loop-i.root c.loop-i.remainder c.loop-i.invariant.1 w.if-remainder-root.true))
-    | else-remainder-root w ↦ (omega arith, rw (w.root-is, w.remainder-is) (digit_zero s c.loop-i.i c.loop-i.rest c.loop-i.root c.loop-i.remainder c.loop-i.invariant.1 w.if-remainder-root.false))
+      | then-remainder-root w ↦ (omega arith, rw (w.root-is, w.remainder-is) (digit_one s c.loop-i.i c.loop-i.rest c.loop-i.root c.loop-i.remainder c.loop-i.invariant.1 w.if-remainder-root.true))
+      | else-remainder-root w ↦ (omega arith, rw (w.root-is, w.remainder-is) (digit_zero s c.loop-i.i c.loop-i.rest c.loop-i.root c.loop-i.remainder c.loop-i.invariant.1 w.if-remainder-root.false))
     ]
 
 pub returns : goal.returns

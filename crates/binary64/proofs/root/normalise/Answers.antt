@@ -20,7 +20,6 @@ use Rattle.binary64.proofs.Normalising.{shift, zeros_range, subnormal_range, nor
 use Rattle.binary64.proofs.root.normalise.Goals as goal
 
 -- to 63. Assumes nothing.
-
 module _ (p : ℕ) (pre : PositiveFinite p) where
   -- the first arm
   module _ (e : kind_of_bits p ≡ Subnormal) where

@@ -9,7 +9,6 @@ use Rattle.binary64.proofs.Rounding.{radicand, even_range, root_range, rounded_f
 use Rattle.binary64.proofs.root.root_of_bits.Goals as goal
 
 -- Assumes nothing.
-
 shifted_lt : (p s x : ℕ) → Normalised p s x → s * 2 ^ (x % 2) < 2 ^ 54
 shifted_lt p s x n = omega (arith, (even_range s x n.significand_ge n.significand_lt).1)
 

@@ -36,10 +36,7 @@ pub pack-requires : goal.pack-requires
 pack-requires c =
     let a = c.args in
     let end = block_le c.requires.rows_below c.loop-k.invariant.1 c.loop-k-test.true in
-    let start : c.block_start.result ≡ block_start a.run.order c.loop-k.k = c.block_start.ensures ∙ ap (λ n. block_start n c.loop-k.k) c.loop-k.invariant.3 in (
-      omega (arith, c.requires.g_le_lanes, c.loop-k.invariant.2, mul-le-mul_left a.lanes end, c.requires.rows_below.order, c.requires.rows_below.inside),
-      rw start (pack_room c.requires.rows_below c.loop-k.invariant.1 c.loop-k-test.true),
-    )
+    let start : c.block_start.result ≡ block_start a.run.order c.loop-k.k = c.block_start.ensures ∙ ap (λ n. block_start n c.loop-k.k) c.loop-k.invariant.3 in record { count_in_bounds = omega (arith, c.requires.g_le_lanes, c.loop-k.invariant.2, mul-le-mul_left a.lanes end, c.requires.rows_below.order, c.requires.rows_below.inside); by_index = rw start (pack_room c.requires.rows_below c.loop-k.invariant.1 c.loop-k-test.true) }
 
 pub overflow_add-k : goal.overflow_add-k
 overflow_add-k c = omega (arith, block_le c.requires.rows_below c.loop-k.invariant.1 c.loop-k-test.true)

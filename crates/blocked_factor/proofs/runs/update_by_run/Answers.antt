@@ -25,13 +25,13 @@ panel_width-g-requires c =
 pub update_panel_by_run-requires : goal.update_panel_by_run-requires
 update_panel_by_run-requires c =
     let a = c.args in
-    let fit : lanes_of c.panel_width-g.result ≤ length a.spare.now / a.run.columns = c.panel_width-g.ensures.3 in (
-      rw c.loop-s0.invariant.2.kept c.requires.run_before,
-      (
+    let fit : lanes_of c.panel_width-g.result ≤ length a.spare.now / a.run.columns = c.panel_width-g.ensures.3 in record {
+      run_before = rw c.loop-s0.invariant.2.kept c.requires.run_before;
+      panel_at = (
         record { some = c.panel_width-g.ensures.0; few = c.panel_width-g.ensures.2; wide = omega (arith, c.panel_width-g.ensures.1, c.loop-s0-test.true) },
         omega (arith, c.loop-s0.invariant.1, mul-le-mul_right a.run.columns fit, div-mul-le_self (length a.spare.now) a.run.columns),
-      ),
-    )
+      );
+    }
 
 pub overflow_add-s0 : goal.overflow_add-s0
 overflow_add-s0 c = omega (arith, c.panel_width-g.ensures, c.loop-s0-test.true, c.requires.run_before.tall, c.requires.run_before.above, c.requires.run_before.order)
@@ -43,7 +43,7 @@ pub loop-s0-preserved : goal.loop-s0-preserved
 loop-s0-preserved c =
     let wide : c.loop-s0.s0 + c.panel_width-g.result ≤ c.args.target.width = omega (arith, c.panel_width-g.ensures, c.loop-s0-test.true) in (
       wide,
-      c.update_panel_by_run.auto.1.0 ∙ c.loop-s0.invariant.1,
+      c.update_panel_by_run.auto.spare ∙ c.loop-s0.invariant.1,
       columns_next wide (run_kept c.requires.run_before c.loop-s0.invariant.2) c.loop-s0.invariant.2 c.update_panel_by_run.ensures,
     )
 

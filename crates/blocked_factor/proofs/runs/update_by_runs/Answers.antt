@@ -12,7 +12,6 @@ use Rattle.blocked_factor.proofs.EarlierBlocks.{run_before, earlier_next, earlie
 use Rattle.blocked_factor.proofs.runs.update_by_runs.Goals as goal
 
 -- nothing.
-
 pub block_start-requires : goal.block_start-requires
 block_start-requires c = omega (arith, c.requires.block_at.order, c.requires.block_at.inside)
 
@@ -51,12 +50,12 @@ place_in_block-requires c = omega (arith, c.requires.block_at.block_high)
 pub update_by_run-requires : goal.update_by_run-requires
 update_by_run-requires c =
     let a = c.args in
-    let columns = c.run_columns-columns.ensures in (
-      rw (c.block_start.ensures, c.block_width.ensures, c.block_start-in-loop-k.ensures, c.loop-k.invariant.3.kept)
+    let columns = c.run_columns-columns.ensures in record {
+      run_before = rw (c.block_start.ensures, c.block_width.ensures, c.block_start-in-loop-k.ensures, c.loop-k.invariant.3.kept)
           (run_before c.requires.block_at c.loop-k.k c.loop-k.invariant.1 _ c.run_columns-columns.result c.place_in_block.ensures (omega (arith, columns, c.requires.block_at.block))
-          (omega (arith, columns)) c.run_columns-columns.ensures.3),
-      omega (arith, columns),
-    )
+          (omega (arith, columns)) c.run_columns-columns.ensures.3);
+      columns_in_bounds = omega (arith, columns);
+    }
 
 pub overflow_add-k : goal.overflow_add-k
 overflow_add-k c = omega (arith, c.run_columns-columns.ensures, c.requires.block_at.inside, c.requires.block_at.order)
@@ -71,7 +70,7 @@ loop-k-preserved c =
     let high : c.loop-k.k + c.run_columns-columns.result ≤ a.c = omega (arith, columns, c.loop-k-test.true) in (
       high,
       block_of_sum a.shape.block c.loop-k.k c.run_columns-columns.result (omega (arith, c.requires.block_at.block)) c.loop-k.invariant.1 c.run_columns-columns.ensures.3,
-      c.update_by_run.auto.1.0 ∙ c.loop-k.invariant.2,
+      c.update_by_run.auto.spare ∙ c.loop-k.invariant.2,
       earlier_next c.requires.block_at c.loop-k.k c.loop-k.invariant.1 c.run_columns-columns.result high c.loop-k.invariant.3
           (rw (c.block_start.ensures, c.block_width.ensures, c.block_start-in-loop-k.ensures) at c.update_by_run.ensures),
     )

@@ -45,14 +45,12 @@ update_whole_tile-requires c =
     let a = c.args in
     let panel = c.requires.panel_at.0 in
     let size = c.loop-r.invariant.3.kept in
-    let fit : c.loop-r.r + rows_of a.g ≤ a.target.rows = omega (arith, c.loop-r-test.true, c.rows_of-tile.ensures, leb-true, c.if-tile-target.true-raw) in (
-      (panel.some, panel.few, omega (arith, panel.wide), c.requires.panel_at.1),
-      (
-        rw size (rows_below c.requires.run_before c.loop-r.r (rows_of a.g) fit),
-        rw (size, c.loop-r.invariant.2)
-            (rows_room c.requires.run_before (tile_rows a.target.width a.s0 a.g c.loop-r.r (rows_of a.g) panel.wide c.if-width-r.true) panel.wide c.loop-r.invariant.0 fit),
-      ),
-    )
+    let fit : c.loop-r.r + rows_of a.g ≤ a.target.rows = omega (arith, c.loop-r-test.true, c.rows_of-tile.ensures, leb-true, c.if-tile-target.true-raw) in record {
+      g_nonzero = (panel.some, panel.few, omega (arith, panel.wide), c.requires.panel_at.1);
+      rows_below = rw size (rows_below c.requires.run_before c.loop-r.r (rows_of a.g) fit);
+      by_index = rw (size, c.loop-r.invariant.2)
+          (rows_room c.requires.run_before (tile_rows a.target.width a.s0 a.g c.loop-r.r (rows_of a.g) panel.wide c.if-width-r.true) panel.wide c.loop-r.invariant.0 fit);
+    }
 
 pub overflow_add-r : goal.overflow_add-r
 overflow_add-r c = omega (arith, c.loop-r-test.true, leb-true, c.if-tile-target.true-raw, c.requires.run_before.order, c.requires.run_before.above)
@@ -99,10 +97,7 @@ update_single_row-requires c =
     let panel = c.requires.panel_at.0 in
     let size = c.loop-r.invariant.3.kept in
     let next : c.loop-r.r + 1 ≤ a.target.rows = omega (arith, c.loop-r-test.true) in
-    let room = rows_room c.requires.run_before (single_row a.target.width a.s0 a.g c.loop-r.r c.least.result c.least.ensures) panel.wide c.loop-r.invariant.0 next 0 (omega arith) in (
-      (panel.few, omega (arith, c.least.ensures), c.requires.panel_at.1, omega (arith, room, size, c.loop-r.invariant.2)),
-      rw size (rows_below c.requires.run_before c.loop-r.r 1 next),
-    )
+    let room = rows_room c.requires.run_before (single_row a.target.width a.s0 a.g c.loop-r.r c.least.result c.least.ensures) panel.wide c.loop-r.invariant.0 next 0 (omega arith) in record { g_bound = (panel.few, omega (arith, c.least.ensures), c.requires.panel_at.1, omega (arith, room, size, c.loop-r.invariant.2)); rows_below = rw size (rows_below c.requires.run_before c.loop-r.r 1 next) }
 
 pub overflow_add-r-else-width-r-2 : goal.overflow_add-r-else-width-r-2
 overflow_add-r-else-width-r-2 c = omega (arith, c.loop-r-test.true, c.requires.run_before.order, c.requires.run_before.above)

@@ -8,10 +8,10 @@ use borrow.Author.Rules.{rules}
 use Rattle.blocked_factor.proofs.runs.update_single_row.Goals as goal
 
 pub load_tile-tile-requires : goal.load_tile-tile-requires
-load_tile-tile-requires c = (omega (arith, c.requires.g_bound), row_room c.args.y c.args.len _ c.requires.g_bound.3)
+load_tile-tile-requires c = record { lanes_bound = omega (arith, c.requires.g_bound); by_index = row_room c.args.y c.args.len _ c.requires.g_bound.3 }
 
 pub store_tile-requires : goal.store_tile-requires
-store_tile-requires c = (omega (arith, c.requires.g_bound), row_room c.args.y c.args.len _ c.requires.g_bound.3)
+store_tile-requires c = record { lanes_bound = omega (arith, c.requires.g_bound); by_index = row_room c.args.y c.args.len _ c.requires.g_bound.3 }
 
 pub returns : goal.returns
 returns c =

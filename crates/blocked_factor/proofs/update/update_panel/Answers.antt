@@ -12,7 +12,7 @@ pub pack-requires : goal.pack-requires
 pack-requires c = pack_ready c.requires.own_columns _ c.requires.g_bound c.if-s0-spare.true
 
 pub update_rows-requires : goal.update_rows-requires
-update_rows-requires c = (c.requires.own_columns, (c.requires.g_bound, (λ always. (omega (arith, c.if-s0-spare.true, c.pack.auto.0), lanes_hold _ _ _ _ _ _ _ _ c.pack.ensures))))
+update_rows-requires c = record { own_columns = c.requires.own_columns; g_bound = (c.requires.g_bound, (λ always. (omega (arith, c.if-s0-spare.true, c.pack.auto.panel), lanes_hold _ _ _ _ _ _ _ _ c.pack.ensures))) }
 
 pub update_rows-requires-else-s0-spare : goal.update_rows-requires-else-s0-spare
-update_rows-requires-else-s0-spare c = (c.requires.own_columns, (c.requires.g_bound, (λ never. absurd never)))
+update_rows-requires-else-s0-spare c = record { own_columns = c.requires.own_columns; g_bound = (c.requires.g_bound, (λ never. absurd never)) }

@@ -18,20 +18,16 @@ use Rattle.calls.specs.Refusals.{success, accepted, refusal, lowest_refusal, by_
 use Rattle.calls.proofs.Judging.{lowest_next, lowest_found}
 use Rattle.calls.proofs.Rearranging.{place_bijection}
 use Rattle.calls.proofs.CheckLaws.{positive_at}
+use Rattle.checks.proofs.rules.check_diagonal.Invariants.{from}
 use Rattle.checks.proofs.rules.check_diagonal.Goals as goal
 
 -- Each place read is below the triangle's length, as both layouts are bijections. Assumes nothing.
-
 on_diagonal : (n j : ℕ) → j < n → Entry n j j
 on_diagonal n j h = record { lower = omega arith; inside = h }
 
 -- ---- a turn
 
 -- column k + c, judged after the c columns before it
-
-abbrev from : (ℕ → ℕ → ℕ) → List Float → ℕ → ℕ → Verdict
-from place matrix k c = positive_at place matrix (k + c)
-
 module _ (place : ℕ → ℕ → ℕ) (matrix : List Float) (k j : ℕ) (low : k ≤ j) (before : lowest_refusal (from place matrix k) (j - k) ≡ success) where
   here : k + (j - k) ≡ j
   here = omega arith
@@ -59,7 +55,7 @@ loop-j-init c =
 
 pub place_of-p-requires : goal.place_of-p-requires
 place_of-p-requires c =
-    (c.requires.order_le_max_order, (c.requires.block_nonzero, on_diagonal c.args.shape.order c.loop-j.j c.loop-j-test.true))
+    record { order_le_max_order = c.requires.order_le_max_order; block_nonzero = c.requires.block_nonzero; entry = on_diagonal c.args.shape.order c.loop-j.j c.loop-j-test.true }
 
 inside : (c : goal.After-place_of-p) → c.place_of-p.result < length c.args.matrix.now
 inside c =

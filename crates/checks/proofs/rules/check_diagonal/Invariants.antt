@@ -20,6 +20,9 @@ use Rattle.calls.proofs.Rearranging.{place_bijection}
 use Rattle.calls.proofs.CheckLaws.{positive_at}
 use Rattle.checks.proofs.rules.check_diagonal.Given as goal
 
+abbrev pub from : (ℕ → ℕ → ℕ) → List Float → ℕ → ℕ → Verdict
+from place matrix k c = positive_at place matrix (k + c)
+
 abbrev pub invariant-loop-j : goal.invariant-loop-j
 invariant-loop-j l =
     (l.k ≤ l.j) × (l.j ≤ l.shape.order) × (lowest_refusal (from (place_of l.layout l.shape.order l.shape.block) l.matrix l.k) (l.j - l.k) ≡ success)

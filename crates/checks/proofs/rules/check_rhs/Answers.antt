@@ -13,7 +13,6 @@ use Rattle.calls.proofs.Judging.{not_leb}
 use Rattle.checks.proofs.rules.check_rhs.Goals as goal
 
 -- bounded. Assumes nothing.
-
 pub returns-then-not-rhs_in_bounds : goal.returns-then-not-rhs_in_bounds
 unfolding first_refusal rule5 rule6
 returns-then-not-rhs_in_bounds c =

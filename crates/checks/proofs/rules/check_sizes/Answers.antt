@@ -31,7 +31,6 @@ past_block :
 past_block c = let args = c.args in cc (block_test args.shape.block)
 
 -- the test of the state
-
 state_test : (c : goal.After-suits) → let args = c.args in c.suits.result ≡ suits (next args.call args.shape.state)
 state_test c = c.suits.ensures ∙ ap suits c.next.ensures
 
@@ -48,7 +47,6 @@ past_matrix c =
     rw (← c.triangle.ensures) (eq-eqb args.matrix c.triangle.result c.if-matrix-triangle.false)
 
 -- what is left is rule 4
-
 past_sizes :
     (c : goal.Else-matrix-triangle) (short : Bool) →
     let args = c.args in

@@ -125,7 +125,7 @@ returns-then-not-accepted-4 c =
 pub check_diagonal-requires : goal.check_diagonal-requires
 check_diagonal-requires c =
     let known = settled c.before.before.before.before.before.before.before.before.before in
-    (known.order, (known.block_low, (omega arith, known.matrix)))
+    record { order_le_max_order = known.order; block_nonzero = known.block_low; k_le_order = omega arith; matrix_len = known.matrix }
 
 pub returns : goal.returns
 returns c =

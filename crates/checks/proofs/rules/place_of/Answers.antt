@@ -5,7 +5,7 @@ use Rattle.checks.proofs.rules.place_of.Goals as goal
 
 pub blocked_place-requires : goal.blocked_place-requires
 blocked_place-requires c =
-    (c.requires.order_le_max_order, (c.requires.block_nonzero (rw c.in-Blocked.is tt), c.requires.entry))
+    record { order_le_max_order = c.requires.order_le_max_order; block_nonzero = c.requires.block_nonzero (rw c.in-Blocked.is tt); entry = c.requires.entry }
 
 pub returns-in-Packed : goal.returns-in-Packed
 unfolding place_of

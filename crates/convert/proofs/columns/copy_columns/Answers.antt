@@ -13,12 +13,11 @@ use Rattle.convert.proofs.Halves.{down_column, column_fits, from_left}
 use Rattle.convert.proofs.columns.copy_columns.Goals as goal
 
 -- Assumes nothing.
-
 pub loop-j-init : goal.loop-j-init
 loop-j-init c = (refl, omega arith, omega arith, moved_no_columns)
 
 pub places-at-requires : goal.places-at-requires
-places-at-requires c = (omega arith, omega arith)
+places-at-requires c = record { order_le_max_order = omega arith; entry = omega arith }
 
 pub copy_part-requires : goal.copy_part-requires
 copy_part-requires c =

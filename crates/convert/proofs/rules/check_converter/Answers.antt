@@ -22,7 +22,6 @@ past_form : (c : goal.Else-form-gt1) → ltb 1 c.args.form ≡ false
 past_form c = le-ltb 1 c.args.form c.if-form-gt1.false
 
 -- the test of the state
-
 state_test : (c : goal.After-suits) → c.suits.result ≡ suits (next Converter c.args.shape.state)
 state_test c = c.suits.ensures ∙ ap suits c.next.ensures
 

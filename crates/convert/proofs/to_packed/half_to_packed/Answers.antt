@@ -11,31 +11,18 @@ use Rattle.convert.proofs.Halves.{narrow, from_left}
 use Rattle.convert.proofs.to_packed.half_to_packed.Goals as goal
 
 -- rows left. Assumes nothing.
-
 pub loop-i-init : goal.loop-i-init
 loop-i-init c = (refl, omega arith, omega arith, moved_no_rows)
 
 pub rows4_to_packed-requires : goal.rows4_to_packed-requires
 rows4_to_packed-requires c =
     let args = c.args in
-    let rows = c.requires.by_rows in (
-      omega arith,
-      (
-        (omega arith, omega arith, omega arith),
-        narrow args.form args.shape.order args.left args.right rows args.left c.least-mid.result (omega arith) (omega arith),
-      ),
-    )
+    let rows = c.requires.by_rows in record { sizes = omega arith; i_bound = (omega arith, omega arith, omega arith); by_rows = narrow args.form args.shape.order args.left args.right rows args.left c.least-mid.result (omega arith) (omega arith) }
 
 pub rows_to_packed-requires : goal.rows_to_packed-requires
 rows_to_packed-requires c =
     let args = c.args in
-    let rows = c.requires.by_rows in (
-      omega (arith, c.rows4_to_packed.auto),
-      (
-        (omega arith, omega arith, omega arith, omega arith),
-        narrow args.form args.shape.order args.left args.right rows c.least-mid.result args.right (omega arith) (omega arith),
-      ),
-    )
+    let rows = c.requires.by_rows in record { sizes = omega (arith, c.rows4_to_packed.auto); first_le_end = (omega arith, omega arith, omega arith, omega arith); by_rows = narrow args.form args.shape.order args.left args.right rows c.least-mid.result args.right (omega arith) (omega arith) }
 
 pub loop-i-preserved : goal.loop-i-preserved
 loop-i-preserved c = (
@@ -47,7 +34,7 @@ loop-i-preserved c = (
 
 pub rows_to_packed-requires-2 : goal.rows_to_packed-requires-2
 rows_to_packed-requires-2 c =
-    (omega arith, ((omega arith, omega arith, omega arith, omega arith), c.requires.by_rows))
+    record { sizes = omega arith; first_le_end = (omega arith, omega arith, omega arith, omega arith); by_rows = c.requires.by_rows }
 
 pub shape_of-target : goal.shape_of-target
 shape_of-target c = omega (arith, c.rows_to_packed-2.auto)

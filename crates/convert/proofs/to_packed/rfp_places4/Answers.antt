@@ -9,9 +9,8 @@ use Rattle.convert.proofs.Halves.{rfp_place_below, stride_le}
 use Rattle.convert.proofs.to_packed.rfp_places4.Goals as goal
 
 -- of places left. Assumes nothing.
-
 pub rfp_place-at-requires : goal.rfp_place-at-requires
-rfp_place-at-requires c = (omega arith, omega arith)
+rfp_place-at-requires c = record { order_le_max_order = omega arith; entry = omega arith }
 
 pub loop-k-init : goal.loop-k-init
 loop-k-init c =

@@ -15,18 +15,16 @@ use Rattle.convert.proofs.Halves.{rfp_place_below, packed_place_below, place_fro
 use Rattle.convert.proofs.to_packed.row_to_packed.Goals as goal
 
 -- entry (i, left), and `to` is the place of entry (i, j). The measure is the number of columns left. Assumes nothing.
-
 pub rfp_place-from-requires : goal.rfp_place-from-requires
-rfp_place-from-requires c = (omega arith, omega arith)
+rfp_place-from-requires c = record { order_le_max_order = omega arith; entry = omega arith }
 
 pub packed_place-to-requires : goal.packed_place-to-requires
-packed_place-to-requires c = (omega arith, omega arith)
+packed_place-to-requires c = record { order_le_max_order = omega arith; entry = omega arith }
 
 pub loop-j-init : goal.loop-j-init
 loop-j-init c = (refl, omega arith, omega arith, omega arith, c.packed_place-to.ensures, moved_no_columns)
 
 -- in a turn the two places are those of entry (i, j), and below the triangle's length
-
 entry_at : (c : goal.In-loop-j)
     → let args = c.args in
     let n = args.shape.order in

@@ -16,18 +16,16 @@ use Rattle.convert.proofs.Halves.{rfp_place_below, packed_place_below, place_fro
 use Rattle.convert.proofs.to_packed.rows4_to_packed.Goals as goal
 
 -- The places of column j are j − left behind those of column left. The measure is the number of columns left. Assumes nothing.
-
 pub rfp_places4-rows-requires : goal.rfp_places4-rows-requires
-rfp_places4-rows-requires c = (omega arith, omega arith)
+rfp_places4-rows-requires c = record { order_le_max_order = omega arith; entry = omega arith }
 
 pub packed_place-to-requires : goal.packed_place-to-requires
-packed_place-to-requires c = (omega arith, omega arith)
+packed_place-to-requires c = record { order_le_max_order = omega arith; entry = omega arith }
 
 pub loop-j-init : goal.loop-j-init
 loop-j-init c = (refl, omega arith, omega arith, c.packed_place-to.ensures, moved_no_columns)
 
 -- in a turn the eight places in the source are those of column j, and the eight in the target are in the triangle
-
 rows_at : (c : goal.In-loop-j) (k : ℕ)
     → k < 4
     → let args = c.args in
@@ -52,10 +50,7 @@ inside c =
 pub gather_part8-values-requires : goal.gather_part8-values-requires
 gather_part8-values-requires c =
     let args = c.args in
-    let j = c.loop-j.j in (
-      omega arith,
-      λ k h. omega (arith, rows_at c k h, rfp_place_below args.form args.shape.order (args.i + k) j (omega arith)),
-    )
+    let j = c.loop-j.j in record { count_bound = omega arith; by_index = λ k h. omega (arith, rows_at c k h, rfp_place_below args.form args.shape.order (args.i + k) j (omega arith)) }
 
 pub store_part8-requires : goal.store_part8-requires
 store_part8-requires c = omega (arith, inside c.before.before)

@@ -11,20 +11,13 @@ use Rattle.convert.proofs.Halves.{narrow, to_diagonal}
 use Rattle.convert.proofs.to_packed.rows_to_packed.Goals as goal
 
 -- left. Assumes nothing.
-
 pub loop-i-init : goal.loop-i-init
 loop-i-init c = (refl, omega arith, omega arith, moved_no_rows)
 
 pub row_to_packed-requires : goal.row_to_packed-requires
 row_to_packed-requires c =
     let args = c.args in
-    let rows = c.requires.by_rows in (
-      omega arith,
-      (
-        (omega arith, omega arith, omega arith, omega arith),
-        narrow args.form args.shape.order args.left args.right rows args.left c.least-stop.result (omega arith) (omega arith),
-      ),
-    )
+    let rows = c.requires.by_rows in record { sizes = omega arith; i_lt_order = (omega arith, omega arith, omega arith, omega arith); by_rows = narrow args.form args.shape.order args.left args.right rows args.left c.least-stop.result (omega arith) (omega arith) }
 
 pub loop-i-preserved : goal.loop-i-preserved
 loop-i-preserved c =

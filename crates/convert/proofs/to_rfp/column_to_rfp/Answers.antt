@@ -13,18 +13,16 @@ use Rattle.convert.proofs.Halves.{stride_le, rfp_place_below, packed_place_below
 use Rattle.convert.proofs.to_rfp.column_to_rfp.Goals as goal
 
 -- (i, j). The measure is the number of rows left. Assumes nothing.
-
 pub packed_place-from-requires : goal.packed_place-from-requires
-packed_place-from-requires c = (omega arith, omega arith)
+packed_place-from-requires c = record { order_le_max_order = omega arith; entry = omega arith }
 
 pub rfp_place-to-requires : goal.rfp_place-to-requires
-rfp_place-to-requires c = (omega arith, omega arith)
+rfp_place-to-requires c = record { order_le_max_order = omega arith; entry = omega arith }
 
 pub loop-i-init : goal.loop-i-init
 loop-i-init c = (refl, omega arith, omega arith, c.packed_place-from.ensures, c.rfp_place-to.ensures, moved_no_rows)
 
 -- in a turn both places lie in the triangle
-
 inside :
     (c : goal.In-loop-i) →
     let n = c.args.shape.order in

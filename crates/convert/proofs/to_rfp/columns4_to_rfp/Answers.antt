@@ -16,15 +16,13 @@ use Rattle.convert.proofs.Halves.{stride_le, rfp_place_below, packed_place_below
 use Rattle.convert.proofs.to_rfp.columns4_to_rfp.Goals as goal
 
 -- packed places of row i are i − first behind those of row first. The measure is the number of rows left. Assumes nothing.
-
 pub rfp_place-to-requires : goal.rfp_place-to-requires
-rfp_place-to-requires c = (omega arith, omega arith)
+rfp_place-to-requires c = record { order_le_max_order = omega arith; entry = omega arith }
 
 pub loop-i-init : goal.loop-i-init
 loop-i-init c = (refl, omega arith, omega arith, c.rfp_place-to.ensures, moved_no_rows)
 
 -- in a turn the eight places lie in the triangle
-
 packed_at :
     (c : goal.In-loop-i) (k : ℕ) → k < 4 →
     let args = c.args in
@@ -49,10 +47,7 @@ inside c =
 
 pub gather_part8-values-requires : goal.gather_part8-values-requires
 gather_part8-values-requires c =
-    let args = c.args in (
-      omega arith,
-      λ k h. omega (arith, packed_at c k h, packed_place_below args.shape.order c.loop-i.i (args.j + k) (omega arith)),
-    )
+    let args = c.args in record { count_bound = omega arith; by_index = λ k h. omega (arith, packed_at c k h, packed_place_below args.shape.order c.loop-i.i (args.j + k) (omega arith)) }
 
 pub store_part8-requires : goal.store_part8-requires
 store_part8-requires c = omega (arith, inside c.before.before)

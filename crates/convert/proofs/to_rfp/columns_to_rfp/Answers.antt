@@ -10,7 +10,6 @@ use Rattle.convert.proofs.Halves.{narrow, from_left}
 use Rattle.convert.proofs.to_rfp.columns_to_rfp.Goals as goal
 
 -- Assumes nothing.
-
 pub loop-j-init : goal.loop-j-init
 loop-j-init c = (refl, omega arith, omega arith, moved_no_columns)
 
@@ -19,7 +18,7 @@ column_to_rfp-requires c =
     let args = c.args in
     let rows = c.requires.by_rows in
     let j = c.loop-j.j in
-    (omega arith, ((omega arith, omega arith, omega arith), narrow args.form args.shape.order args.left args.right rows j (j + 1) (omega arith) (omega arith)))
+    record { sizes = omega arith; j_lt_order = (omega arith, omega arith, omega arith); by_rows = narrow args.form args.shape.order args.left args.right rows j (j + 1) (omega arith) (omega arith) }
 
 pub loop-j-preserved : goal.loop-j-preserved
 loop-j-preserved c =

@@ -11,14 +11,11 @@ use Rattle.job.proofs.listing.put_solution.Goals as goal
 pub put_values-next-requires : goal.put_values-next-requires
 put_values-next-requires c =
     let a = c.args in
-    (refl, omega (arith, length_solution_lines a.matrix.now a.rhs.now))
+    record { head_len = refl; values_in_bounds = omega (arith, length_solution_lines a.matrix.now a.rhs.now) }
 
 pub put_values-requires : goal.put_values-requires
 put_values-requires c =
-    let a = c.args in (
-      refl,
-      omega (arith, length_solution_lines a.matrix.now a.rhs.now, length_value_lines (70 ∷ 32 ∷ []) a.matrix.now refl),
-    )
+    let a = c.args in record { head_len = refl; values_in_bounds = omega (arith, length_solution_lines a.matrix.now a.rhs.now, length_value_lines (70 ∷ 32 ∷ []) a.matrix.now refl) }
 
 pub returns : goal.returns
 unfolding solution_lines

@@ -16,13 +16,13 @@ loop-k-init c =
 pub put_value-next-requires : goal.put_value-next-requires
 put_value-next-requires c =
     let a = c.args in
-    (c.requires.head_len, omega (arith, length_lines a.head.now a.values.now c.requires.head_len c.loop-k.k))
+    record { head_len = c.requires.head_len; at_in_bounds = omega (arith, length_lines a.head.now a.values.now c.requires.head_len c.loop-k.k) }
 
 pub loop-k-preserved : goal.loop-k-preserved
 loop-k-preserved c =
     let a = c.args in (
       omega arith,
-      c.put_value-next.auto.0 ∙ c.loop-k.invariant.1,
+      c.put_value-next.auto.out ∙ c.loop-k.invariant.1,
       pieces_turn (line_at a.head.now a.values.now) a.at c.loop-k.next c.put_value-next.result c.loop-k.k a.out.now c.loop-k.out
           c.put_value-next.new.out (omega (arith, length_lines a.head.now a.values.now c.requires.head_len c.loop-k.k)) c.loop-k.invariant.2
           c.put_value-next.ensures,

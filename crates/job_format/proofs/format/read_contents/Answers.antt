@@ -9,7 +9,7 @@ pub read_map-requires : goal.read_map-requires
 read_map-requires c = c.requires.order_le_max_job_order
 
 pub read_mapped-requires : goal.read_mapped-requires
-read_mapped-requires c = (c.requires.matrix_len, c.requires.rhs_len)
+read_mapped-requires c = record { matrix_len = c.requires.matrix_len; rhs_len = c.requires.rhs_len }
 
 pub returns-in-Fault : goal.returns-in-Fault
 returns-in-Fault c =

@@ -62,7 +62,6 @@ use Rattle.job_format.proofs.reader.next_field.Goals as goal
 -- Assumes nothing.
 
 -- the struct's type, over the signature's lifetimes
-
 abbrev B : Lfts 1 → RattleType
 B κs = T.the_row (named_lft 1 0 tt κs)
 

@@ -43,7 +43,6 @@ use Rattle.job_format.proofs.reader.reader_at.Goals as goal
 -- A `&[u8]` is Copy, so what it owns is had twice: once for src at exit, and once inside the result, beside the facts of at.
 
 -- Assumes nothing.
-
 abbrev stayed : Stays (made_by.ended).signature.params (made_by.ended).kept
 stayed = (stay_none_slice (0 ∷ []) tt (plain (λ _. u8)) yes, (stay_none (λ _. usize) yes, tt))
 

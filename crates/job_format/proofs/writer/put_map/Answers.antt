@@ -18,7 +18,7 @@ pub loop-i-preserved : goal.loop-i-preserved
 loop-i-preserved c =
     let a = c.args in (
       omega arith,
-      c.put_byte-next.auto.0 ∙ c.loop-i.invariant.1,
+      c.put_byte-next.auto.out ∙ c.loop-i.invariant.1,
       omega (arith, c.put_byte-next.ensures.next, c.loop-i.invariant.2),
       tabulated_turn (map_byte a.matrix.now) a.at c.loop-i.next c.put_byte-next.result c.loop-i.i c.map_byte.result a.out.now c.loop-i.out
           c.put_byte-next.new.out (omega (arith, c.requires)) c.loop-i.invariant.3 c.map_byte.ensures c.put_byte-next.ensures,

@@ -23,7 +23,7 @@ pub loop-k-preserved : goal.loop-k-preserved
 loop-k-preserved c =
     let a = c.args in (
       omega arith,
-      c.put_value-next.auto.0 ∙ c.loop-k.invariant.1,
+      c.put_value-next.auto.out ∙ c.loop-k.invariant.1,
       pieces_turn (λ j. value_bytes a.zeros (get_or a.values.now j 0)) a.at c.loop-k.next c.put_value-next.result c.loop-k.k a.out.now c.loop-k.out c.put_value-next.new.out
           (omega (arith, length_values_to a.zeros a.values.now c.loop-k.k, c.requires)) c.loop-k.invariant.2 c.put_value-next.ensures,
     )

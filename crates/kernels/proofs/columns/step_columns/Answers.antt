@@ -14,7 +14,6 @@ use Rattle.kernels.proofs.Runs.{square_ge, row_place, row_inside, next_place, ro
 use Rattle.kernels.proofs.columns.step_columns.Goals as goal
 
 -- place of row i in the next one. Assumes nothing.
-
 corner : (c : goal.After-triangle) → c.triangle.result ≡ triangle c.args.b
 corner c = c.triangle.ensures ∙ ap triangle c.new.ensures.0
 

@@ -7,7 +7,7 @@ use borrow.Author.Rules.{rules}
 use Rattle.kernels.proofs.lanes.update16.Goals as goal
 
 pub reduce_block-lanes-requires : goal.reduce_block-lanes-requires
-reduce_block-lanes-requires c = (omega arith, λ r h. let first : r ≡ 0 = omega arith in rw first (omega arith))
+reduce_block-lanes-requires c = record { rows_nonzero = omega arith; by_index = λ r h. let first : r ≡ 0 = omega arith in rw first (omega arith) }
 
 pub returns : goal.returns
 returns c =

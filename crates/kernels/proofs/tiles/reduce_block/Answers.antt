@@ -25,10 +25,7 @@ overflow_add-at c = omega (arith, c.requires.rows_nonzero, lane_end c.args.lanes
 pub step_tile-step-requires : goal.step_tile-step-requires
 step_tile-step-requires c =
     let a = c.args in
-    let k = c.loop-k.k in (
-      omega (arith, c.requires.rows_nonzero, lane_end a.lanes k a.count c.loop-k-test.true),
-      λ r h. omega (arith, c.requires.by_index r h),
-    )
+    let k = c.loop-k.k in record { lanes_bound = omega (arith, c.requires.rows_nonzero, lane_end a.lanes k a.count c.loop-k-test.true); by_index = λ r h. omega (arith, c.requires.by_index r h) }
 
 pub loop-k-preserved : goal.loop-k-preserved
 loop-k-preserved c =

@@ -14,7 +14,6 @@ use Rattle.kernels.proofs.Runs.{square_ge, row_place, row_inside, next_place, ro
 use Rattle.kernels.proofs.tiles.reduce_run.Goals as goal
 
 -- columns, and x is the place of row i in the next one. Assumes nothing.
-
 pub overflow_mul-step : goal.overflow_mul-step
 overflow_mul-step c = omega (arith, c.requires.rows_below.block_high)
 
@@ -56,16 +55,16 @@ overflow_mul-lanes c =
 pub reduce_block-block-requires : goal.reduce_block-block-requires
 reduce_block-block-requires c =
     let a = c.args in
-    let t = row_turn c.requires.rows_below c.requires.rows_nonzero.0 c.loop-k.invariant.1 c.loop-k-test.true in (
-      omega (arith, c.requires.rows_nonzero, mul-le-mul_left a.lanes t.0),
-      λ r h.
+    let t = row_turn c.requires.rows_below c.requires.rows_nonzero.0 c.loop-k.invariant.1 c.loop-k-test.true in record {
+      rows_nonzero = omega (arith, c.requires.rows_nonzero, mul-le-mul_left a.lanes t.0);
+      by_index = λ r h.
           omega (
             arith,
             c.loop-k.invariant.2 c.loop-k-test.true,
             c.requires.rows_below.size,
             row_inside a.run.order a.run.block c.loop-k.k c.loop-k.invariant.1 a.i r c.requires.rows_below.block t.1 (omega (arith, c.requires.rows_below.inside)),
-          ),
-    )
+          );
+    }
 
 pub overflow_sub-x-in-loop-k : goal.overflow_sub-x-in-loop-k
 overflow_sub-x-in-loop-k c = omega (arith, row_turn c.requires.rows_below c.requires.rows_nonzero.0 c.loop-k.invariant.1 c.loop-k-test.true)

@@ -8,12 +8,10 @@ use Rattle.rearrange.proofs.Moves.{ColumnMoved, column_none, column_inside, colu
 use Rattle.rearrange.proofs.below.column_to_packed.Goals as goal
 
 -- entry (r, s). The measure is the number of rows left. Assumes nothing.
-
 pub loop-r-init : goal.loop-r-init
 loop-r-init c = (omega arith, column_none c.packed_place-to.ensures c.place_in_block-from.ensures)
 
 -- in a turn both places lie in the block column
-
 inside : (c : goal.In-loop-r)
     → let part = c.args.part in
     (c.loop-r.to < block_start part.order part.block) × (c.loop-r.from < block_start part.order part.block)

@@ -15,12 +15,10 @@ use Rattle.rearrange.proofs.Moves.{moved_columns}
 use Rattle.rearrange.proofs.below.columns8_to_blocked.Goals as goal
 
 -- The packed places of row r are r − first behind those of row first. The measure is the number of rows left. Assumes nothing.
-
 pub loop-r-init : goal.loop-r-init
 loop-r-init c = (refl, omega arith, omega arith, c.place_in_block-q.ensures, moved_no_rows)
 
 -- in a turn the eight places lie in the block column
-
 packed_at : (c : goal.In-loop-r) (k : ℕ)
     → k < 8
     → let args = c.args in

@@ -9,12 +9,11 @@ use Rattle.rearrange.specs.Moves.{Moved}
 use Rattle.rearrange.proofs.below.rows_to_blocked.Goals as goal
 
 -- left. Assumes nothing.
-
 pub loop-s-init : goal.loop-s-init
 loop-s-init c = (refl, omega arith, moved_no_columns)
 
 pub columns8_to_blocked-requires : goal.columns8_to_blocked-requires
-columns8_to_blocked-requires c = (omega arith, omega arith)
+columns8_to_blocked-requires c = record { sizes = omega arith; s_bound = omega arith }
 
 pub loop-s-preserved-then-s-part : goal.loop-s-preserved-then-s-part
 loop-s-preserved-then-s-part c = (
@@ -24,7 +23,7 @@ loop-s-preserved-then-s-part c = (
 )
 
 pub column_to_blocked-requires : goal.column_to_blocked-requires
-column_to_blocked-requires c = (omega arith, omega arith)
+column_to_blocked-requires c = record { sizes = omega arith; s_lt_block = omega arith }
 
 pub loop-s-preserved : goal.loop-s-preserved
 loop-s-preserved c = (

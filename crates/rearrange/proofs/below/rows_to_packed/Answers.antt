@@ -9,12 +9,11 @@ use Rattle.rearrange.specs.Moves.{Moved}
 use Rattle.rearrange.proofs.below.rows_to_packed.Goals as goal
 
 -- left. Assumes nothing.
-
 pub loop-s-init : goal.loop-s-init
 loop-s-init c = (refl, omega arith, moved_no_columns)
 
 pub column_to_packed-requires : goal.column_to_packed-requires
-column_to_packed-requires c = (omega arith, omega arith)
+column_to_packed-requires c = record { sizes = omega arith; s_lt_block = omega arith }
 
 pub loop-s-preserved : goal.loop-s-preserved
 loop-s-preserved c = (

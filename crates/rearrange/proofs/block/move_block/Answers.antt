@@ -9,7 +9,6 @@ use Rattle.rearrange.proofs.Moves.{moved_back}
 use Rattle.rearrange.proofs.block.move_block.Goals as goal
 
 -- Assumes nothing.
-
 pub slice_bounds-copy-end-2 : goal.slice_bounds-copy-end-2
 slice_bounds-copy-end-2 c =
     sym (length-take-le _ _ (omega (arith, c.block_start-length.ensures, c.move_rows.auto)))

@@ -9,14 +9,13 @@ use Rattle.rearrange.specs.Moves.{Moved}
 use Rattle.rearrange.proofs.block.move_rows.Goals as goal
 
 -- number of rows left. Assumes nothing.
-
 pub loop-r-init : goal.loop-r-init
 loop-r-init c = (refl, omega arith, omega arith, moved_no_rows)
 
 pub move_tile-requires : goal.move_tile-requires
 move_tile-requires c =
     let size = c.move_diagonal.auto in
-    (omega arith, omega arith)
+    record { sizes = omega arith; block_le_first = omega arith }
 
 pub loop-r-smaller : goal.loop-r-smaller
 loop-r-smaller c = omega (arith, c.least-end.ensures)

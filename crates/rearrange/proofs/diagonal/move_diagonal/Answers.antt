@@ -8,12 +8,11 @@ use Rattle.rearrange.specs.Moves.{Moved}
 use Rattle.rearrange.proofs.diagonal.move_diagonal.Goals as goal
 
 -- left. Assumes nothing.
-
 pub loop-r-init : goal.loop-r-init
 loop-r-init c = (refl, omega arith, moved_no_rows)
 
 pub move_row-requires : goal.move_row-requires
-move_row-requires c = (omega arith, omega arith)
+move_row-requires c = record { sizes = omega arith; r_lt_block = omega arith }
 
 pub loop-r-preserved : goal.loop-r-preserved
 loop-r-preserved c = (

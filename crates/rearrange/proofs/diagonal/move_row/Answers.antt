@@ -15,7 +15,6 @@ use Rattle.rearrange.proofs.Moves.{to_diagonal, moved_entry}
 use Rattle.rearrange.proofs.diagonal.move_row.Goals as goal
 
 -- (r, s). The measure is the number of columns left. Assumes nothing.
-
 pub loop-s-init : goal.loop-s-init
 loop-s-init c = (refl, omega arith, c.packed_place-p.ensures, c.place_in_block-q.ensures, moved_no_columns)
 

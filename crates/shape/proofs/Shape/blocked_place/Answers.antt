@@ -7,7 +7,6 @@ use Rattle.shape.proofs.Bounds.{triangle_le}
 use Rattle.shape.proofs.Shape.blocked_place.Goals as goal
 
 -- which is below triangle n. Assumes nothing.
-
 pub block_width-w-requires : goal.block_width-w-requires
 block_width-w-requires c =
     let args = c.args in

@@ -8,7 +8,6 @@ use Rattle.shape.proofs.Bounds.{triangle_le, product_fits}
 use Rattle.shape.proofs.Shape.packed_place.Goals as goal
 
 -- is below triangle n. Assumes nothing.
-
 pub overflow_mul-result-2 : goal.overflow_mul-result-2
 overflow_mul-result-2 c = product_fits _ _ (omega arith) (omega arith)
 

@@ -19,7 +19,6 @@ loop-c-init c =
     (omega arith, c.requires.whole, backward_start a.rows _ a.work.now c.requires.size)
 
 -- the block column begins before c, and its values lie in the matrix
-
 first_lt : (c : goal.After-block_of-first) → c.block_of-first.result < c.loop-c.c
 first_lt c = omega (arith, block_of_le c.args.shape.block (c.loop-c.c - 1))
 
@@ -33,7 +32,7 @@ start_le c =
     )
 
 pub block_start-at-requires : goal.block_start-at-requires
-block_start-at-requires c = (omega arith, omega (arith, first_lt c))
+block_start-at-requires c = record { order_le_max_order = omega arith; c_le_order = omega (arith, first_lt c) }
 
 pub block_width-w-requires : goal.block_width-w-requires
 block_width-w-requires c = omega (arith, first_lt c.before)
@@ -60,7 +59,6 @@ pub slice_bounds-backward_block-start-in-loop-c : goal.slice_bounds-backward_blo
 slice_bounds-backward_block-start-in-loop-c c = omega (arith, first_lt c.before.before.before)
 
 -- it ends at c
-
 ends : (c : goal.After-block_width-w) → c.block_of-first.result + c.block_width-w.result ≡ c.loop-c.c
 ends c =
     let s = c.args.shape in

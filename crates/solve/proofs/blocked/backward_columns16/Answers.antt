@@ -11,9 +11,8 @@ use Rattle.solve.proofs.BlockColumns.{Less16, less16_next, columns16_done}
 use Rattle.solve.proofs.blocked.backward_columns16.Goals as goal
 
 -- end − k has its entry in column s at `at`. Assumes nothing.
-
 pub place_in_block-at-requires : goal.place_in_block-at-requires
-place_in_block-at-requires c = (omega arith, omega arith)
+place_in_block-at-requires c = record { r_le_max_order = omega arith; s_le_r = omega arith }
 
 pub loop-k-init : goal.loop-k-init
 loop-k-init c =

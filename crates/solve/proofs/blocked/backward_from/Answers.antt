@@ -13,12 +13,10 @@ use Rattle.solve.proofs.BlockTurns.{trailing_fits, trailing_ends, trailing_colum
 use Rattle.solve.proofs.blocked.backward_from.Goals as goal
 
 -- nothing.
-
 pub backward_whole-requires : goal.backward_whole-requires
-backward_whole-requires c = (c.requires.blocks_from, inr (sym c.block_of-c.ensures ∙ c.if-c-k.true))
+backward_whole-requires c = record { blocks_from = c.requires.blocks_from; fact = inr (sym c.block_of-c.ensures ∙ c.if-c-k.true) }
 
 -- column k is not its block column's first, and so it is not 0
-
 inside : (c : goal.Else-c-k)
     → let a = c.args in
     a.k < a.shape.order
@@ -29,7 +27,6 @@ pub block_from-block-requires : goal.block_from-block-requires
 block_from-block-requires c = (c.requires.blocks_from.block, inside c)
 
 -- the block column begins in the matrix, and ends there
-
 start : (c : goal.After-block_start-at)
     → let a = c.args in
     let s = a.shape in
@@ -60,16 +57,16 @@ backward_whole-requires-else-c-k c =
     let here = c.before in
     let a = c.args in
     let pre = c.requires.blocks_from in
-    let block = c.block_from-block in (
-      record {
+    let block = c.block_from-block in record {
+      blocks_from = record {
         order = pre.order;
         block = pre.block;
         before = (start here).3;
         values = pre.values;
         rows = simp (length-take, length-drop) (omega (arith, start here));
-      },
-      trailing_ends a.shape.order a.shape.block a.k c.block_from-block.result pre.block (inside c.before.before.before) c.block_from-block.ensures,
-    )
+      };
+      fact = trailing_ends a.shape.order a.shape.block a.k c.block_from-block.result pre.block (inside c.before.before.before) c.block_from-block.ensures;
+    }
 
 pub offset_bounds-matrix-at : goal.offset_bounds-matrix-at
 offset_bounds-matrix-at c = omega (arith, start c.before.before.before.before)
@@ -88,7 +85,7 @@ backward_block-requires c =
     trailing_column a.shape.order a.shape.block a.k c.block_from-block.result pre.block (inside c.before.before.before.before.before.before.before.before) c.block_from-block.ensures
     c.block_start-at.result a.matrix.now pre.values (start here).0 _ pre.order
     (length_returned (a.shape.order - a.k) c.block_from-block.result.w a.work.now c.backward_whole-else-c-k.new.work pre.rows (omega (arith, start here))
-    c.backward_whole-else-c-k.auto.1.1.1.0)
+    c.backward_whole-else-c-k.auto.work)
 
 pub returns-else-c-k : goal.returns-else-c-k
 returns-else-c-k c =

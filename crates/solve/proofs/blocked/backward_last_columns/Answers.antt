@@ -15,7 +15,7 @@ loop-k-init c =
 pub backward_row-requires : goal.backward_row-requires
 backward_row-requires c =
     let a = c.args in
-    (rows_beside a.block a.part.now a.work.now c.loop-k.work c.requires.block_column c.loop-k.invariant.1.size, (omega arith, (omega arith, omega arith)))
+    record { block_column = rows_beside a.block a.part.now a.work.now c.loop-k.work c.requires.block_column c.loop-k.invariant.1.size; from_le_w = omega arith; w_le_r = omega arith; r_lt_h = omega arith }
 
 pub loop-k-preserved : goal.loop-k-preserved
 loop-k-preserved c =

@@ -9,7 +9,6 @@ use Rattle.solve.proofs.BlockColumns.{row_under}
 use Rattle.solve.proofs.blocked.backward_row.Goals as goal
 
 -- the part of the row lies in the block column
-
 inside : (c : goal.After-place_in_block-at)
     → let a = c.args in
     c.place_in_block-at.result + (a.block.w - a.from) ≤ room a.block

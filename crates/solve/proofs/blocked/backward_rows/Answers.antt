@@ -15,11 +15,11 @@ loop-end-init c =
 
 pub backward_tile-requires : goal.backward_tile-requires
 backward_tile-requires c =
-    let a = c.args in (
-      rows_beside a.block a.part.now a.work.now c.loop-end.work c.requires
-          c.loop-end.invariant.2.size,
-      omega arith,
-    )
+    let a = c.args in record {
+      block_column = rows_beside a.block a.part.now a.work.now c.loop-end.work c.requires
+          c.loop-end.invariant.2.size;
+      w_le_first = omega arith;
+    }
 
 pub loop-end-preserved : goal.loop-end-preserved
 loop-end-preserved c =

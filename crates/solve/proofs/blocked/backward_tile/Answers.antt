@@ -13,7 +13,7 @@ loop-s-init c = (omega arith, replaced_none _ 0 c.args.work.now)
 pub backward_columns16-requires : goal.backward_columns16-requires
 backward_columns16-requires c =
     let a = c.args in
-    (rows_beside a.block a.part.now a.work.now c.loop-s.work c.requires.block_column c.loop-s.invariant.1.size, omega arith)
+    record { block_column = rows_beside a.block a.part.now a.work.now c.loop-s.work c.requires.block_column c.loop-s.invariant.1.size; s_bound = omega arith }
 
 pub loop-s-preserved : goal.loop-s-preserved
 loop-s-preserved c =
@@ -26,7 +26,7 @@ loop-s-preserved c =
 pub backward_last_columns-requires : goal.backward_last_columns-requires
 backward_last_columns-requires c =
     let a = c.args in
-    (rows_beside a.block a.part.now a.work.now c.loop-s.work c.requires.block_column c.loop-s.invariant.1.size, omega arith)
+    record { block_column = rows_beside a.block a.part.now a.work.now c.loop-s.work c.requires.block_column c.loop-s.invariant.1.size; from_le_w = omega arith }
 
 pub shape_of-work-then-s-w : goal.shape_of-work-then-s-w
 shape_of-work-then-s-w c = c.backward_last_columns.ensures.size ∙ c.loop-s.invariant.1.size

@@ -12,14 +12,12 @@ use Rattle.solve.proofs.Triangles.{TakenFrom, taken_none, taken_all}
 use Rattle.solve.proofs.blocked.backward_triangle.Goals as goal
 
 -- those before r, and `at` is where row r begins. Assumes nothing.
-
 pub loop-r-init : goal.loop-r-init
 loop-r-init c =
     let a = c.args in
     (omega arith, c.place_in_block-at.ensures, taken_none _ a.block.w a.work.now)
 
 -- in a turn the row before lies in the block column
-
 inside : (c : goal.In-loop-r)
     → let a = c.args in
     (a.block.skip + c.loop-r.r ≤ c.loop-r.at) × (c.loop-r.at - (a.block.skip + c.loop-r.r) + (c.loop-r.r - 1) < room a.block)

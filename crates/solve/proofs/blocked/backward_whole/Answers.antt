@@ -12,7 +12,6 @@ use Rattle.solve.proofs.Factors.{blocked_trailing}
 use Rattle.solve.proofs.blocked.backward_whole.Goals as goal
 
 -- the part begins in the matrix
-
 start_le : (c : goal.After-block_start-at)
     → let n = c.args.shape.order in
     (c.block_start-at.result ≤ triangle n) × (triangle n ≤ 8002000)
@@ -31,13 +30,7 @@ slice_bounds-backward-start c = omega (arith, start_le c.before.before)
 
 pub backward-requires : goal.backward-requires
 backward-requires c =
-    let a = c.args in (
-      omega arith,
-      (
-        omega arith,
-        (simp (length-take, length-drop) (omega (arith, triangle_rest a.shape.order a.c (omega arith), ap triangle c.new-whole.ensures.0)), omega arith),
-      ),
-    )
+    let a = c.args in record { order_le_max_order = omega arith; block_nonzero = omega arith; matrix_len = simp (length-take, length-drop) (omega (arith, triangle_rest a.shape.order a.c (omega arith), ap triangle c.new-whole.ensures.0)); work_len = omega arith }
 
 pub returns : goal.returns
 returns c =

@@ -14,7 +14,6 @@ pub block_width-requires : goal.block_width-requires
 block_width-requires c = omega (arith, block_of_le c.args.shape.block c.args.k)
 
 -- column k is one of the block column's
-
 wide : (c : goal.After-block_width)
     → let a = c.args in
     let s = a.shape in

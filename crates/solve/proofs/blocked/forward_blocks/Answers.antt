@@ -18,7 +18,6 @@ loop-c-init c =
     (omega arith, λ p. omega (arith, block_of_le a.shape.block 0), forward_start a.rows _ a.work.now c.requires.size)
 
 -- the block column's values lie in the matrix
-
 start_le : (c : goal.After-block_start-at)
     → let n = c.args.shape.order in
     (c.block_start-at.result ≤ triangle n) × (triangle n ≤ 8002000)
@@ -36,7 +35,6 @@ pub slice_bounds-forward_block-start : goal.slice_bounds-forward_block-start
 slice_bounds-forward_block-start c = omega (arith, start_le c.before)
 
 -- the block column ends with the rows or before
-
 ends : (c : goal.After-block_width-w)
     → c.loop-c.c + c.block_width-w.result ≤ c.args.rows
 ends c =

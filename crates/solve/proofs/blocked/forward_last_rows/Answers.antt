@@ -12,9 +12,8 @@ use Rattle.solve.proofs.BlockColumns.{under_row}
 use Rattle.solve.proofs.blocked.forward_last_rows.Goals as goal
 
 -- where row r begins. Assumes nothing.
-
 pub place_in_block-at-requires : goal.place_in_block-at-requires
-place_in_block-at-requires c = (omega arith, omega arith)
+place_in_block-at-requires c = record { r_le_max_order = omega arith; s_le_r = omega arith }
 
 pub loop-r-init : goal.loop-r-init
 loop-r-init c =

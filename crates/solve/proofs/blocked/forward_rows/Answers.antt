@@ -16,7 +16,7 @@ loop-t-init c =
 pub forward_rows8-requires : goal.forward_rows8-requires
 forward_rows8-requires c =
     let a = c.args in
-    (rows_beside a.block a.part.now a.work.now c.loop-t.work c.requires c.loop-t.invariant.1.size, omega arith)
+    record { block_column = rows_beside a.block a.part.now a.work.now c.loop-t.work c.requires c.loop-t.invariant.1.size; t_lt_q = omega arith }
 
 pub loop-t-preserved : goal.loop-t-preserved
 loop-t-preserved c =
@@ -30,7 +30,7 @@ loop-t-preserved c =
 pub forward_last_rows-requires : goal.forward_last_rows-requires
 forward_last_rows-requires c =
     let a = c.args in
-    (rows_beside a.block a.part.now a.work.now c.loop-t.work c.requires c.loop-t.invariant.1.size, (omega arith, omega arith))
+    record { block_column = rows_beside a.block a.part.now a.work.now c.loop-t.work c.requires c.loop-t.invariant.1.size; w_le_from = omega arith; from_le_h = omega arith }
 
 pub shape_of-work : goal.shape_of-work
 shape_of-work c = c.forward_last_rows.ensures.size ∙ c.loop-t.invariant.1.size

@@ -9,7 +9,6 @@ use borrow.Author.Rules.{rules}
 use Rattle.solve.proofs.blocked.forward_rows8.Goals as goal
 
 -- the bounds of the eight places
-
 bounds : (c : goal.After-place_in_block-from)
     → let a = c.args in
     (c.place_in_block-from.result ≤ 8002000) × (a.q * (a.block.skip + a.block.w) ≤ 8002000)
@@ -50,10 +49,7 @@ subtract_rising8-values-requires c =
 pub scatter8-requires : goal.scatter8-requires
 scatter8-requires c =
     let a = c.args in
-    let rows = c.apart8-rows.ensures in (
-      λ s few. omega (arith, rows s few, apart_inside a.q s a.t few c.requires.t_lt_q.0),
-      λ s s' few few' e. (apart_same a.q s s' a.t a.t c.requires.t_lt_q.0 c.requires.t_lt_q.0 (omega (arith, rows s few, rows s' few'))).0,
-    )
+    let rows = c.apart8-rows.ensures in record { by_index = λ s few. omega (arith, rows s few, apart_inside a.q s a.t few c.requires.t_lt_q.0); by_index_2 = λ s s' few few' e. (apart_same a.q s s' a.t a.t c.requires.t_lt_q.0 c.requires.t_lt_q.0 (omega (arith, rows s few, rows s' few'))).0 }
 
 pub returns : goal.returns
 returns c =

@@ -13,9 +13,8 @@ use Rattle.solve.proofs.BlockColumns.{triangle_row}
 use Rattle.solve.proofs.blocked.forward_triangle.Goals as goal
 
 -- nothing.
-
 pub place_in_block-at-requires : goal.place_in_block-at-requires
-place_in_block-at-requires c = (omega arith, omega arith)
+place_in_block-at-requires c = record { r_le_max_order = omega arith; s_le_r = omega arith }
 
 pub loop-r-init : goal.loop-r-init
 loop-r-init c =
@@ -26,7 +25,6 @@ pub slice_bounds-subtract_rising-end-in-loop-r : goal.slice_bounds-subtract_risi
 slice_bounds-subtract_rising-end-in-loop-r c = simp length-take (omega arith)
 
 -- in a turn the row lies in the block column
-
 inside : (c : goal.In-loop-r)
     → let a = c.args in
     c.loop-r.at + c.loop-r.r < room a.block

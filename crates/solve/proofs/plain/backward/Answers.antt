@@ -15,10 +15,9 @@ pub new-shape-requires : goal.new-shape-requires
 new-shape-requires c = tt
 
 pub block_start-last-requires : goal.block_start-last-requires
-block_start-last-requires c = (omega arith, omega arith)
+block_start-last-requires c = record { order_le_max_order = omega arith; c_le_order = omega arith }
 
 -- what lies behind the part's start is the triangle of its columns
-
 room : (c : goal.After-block_start-last)
     → let n = c.args.n in
     c.block_start-last.result + triangle (n % 8) ≡ triangle n
@@ -38,7 +37,7 @@ slice_bounds-backward_triangle-start c = omega (arith, room c)
 pub backward_triangle-requires : goal.backward_triangle-requires
 backward_triangle-requires c =
     let fits = room c.before.before in
-    (omega arith, (omega arith, (simp (length-take, length-drop) (omega arith), simp (length-take, length-drop) (omega arith))))
+    record { h_le_max_order = omega arith; w_le_h = omega arith; h_in_bounds = simp (length-take, length-drop) (omega arith); work_len = simp (length-take, length-drop) (omega arith) }
 
 pub loop-c-init : goal.loop-c-init
 loop-c-init c =
@@ -46,7 +45,7 @@ loop-c-init c =
       omega arith,
       omega arith,
       length_returned a.n (a.n - a.n % 8) a.work.now c.backward_triangle.new.work (omega arith) (omega arith)
-          c.backward_triangle.auto.1.1.1.0,
+          c.backward_triangle.auto.work,
       omega arith,
       omega arith,
       c.new-shape.ensures.0,
@@ -54,7 +53,7 @@ loop-c-init c =
     )
 
 pub block_start-at-requires : goal.block_start-at-requires
-block_start-at-requires c = (omega arith, omega arith)
+block_start-at-requires c = record { order_le_max_order = omega arith; c_le_order = omega arith }
 
 room8 : (c : goal.After-block_start-at)
     → let n = c.args.n in
@@ -74,7 +73,7 @@ slice_bounds-backward_columns8-start c = omega (arith, room8 c)
 pub backward_columns8-requires : goal.backward_columns8-requires
 backward_columns8-requires c =
     let fits = room8 c.before.before in
-    (omega arith, (omega arith, (simp (length-take, length-drop) (omega arith), simp (length-take, length-drop) (omega arith))))
+    record { h_le_max_order = omega arith; le_h = omega arith; h_in_bounds = simp (length-take, length-drop) (omega arith); work_len = simp (length-take, length-drop) (omega arith) }
 
 pub loop-c-preserved : goal.loop-c-preserved
 loop-c-preserved c =
@@ -82,7 +81,7 @@ loop-c-preserved c =
     let back : c.loop-c.c - 8 + 8 ≡ c.loop-c.c = omega arith in (
       omega arith,
       omega arith,
-      length_returned a.n (c.loop-c.c - 8) c.loop-c.work c.backward_columns8.new.work c.loop-c.invariant.2 (omega arith) c.backward_columns8.auto.1.1.0,
+      length_returned a.n (c.loop-c.c - 8) c.loop-c.work c.backward_columns8.new.work c.loop-c.invariant.2 (omega arith) c.backward_columns8.auto.work,
       c.loop-c.invariant.3,
       c.loop-c.invariant.4,
       c.loop-c.invariant.5,

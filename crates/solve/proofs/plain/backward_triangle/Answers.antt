@@ -10,15 +10,13 @@ use Rattle.solve.proofs.Triangles.{BackwardRows, backward_none, backward_all}
 use Rattle.solve.proofs.plain.backward_triangle.Goals as goal
 
 -- nothing.
-
 pub loop-r-init : goal.loop-r-init
 loop-r-init c = (omega arith, backward_none _ c.args.w c.args.work.now)
 
 pub packed_place-at-requires : goal.packed_place-at-requires
-packed_place-at-requires c = (omega arith, record { lower = omega arith; inside = omega arith })
+packed_place-at-requires c = record { order_le_max_order = omega arith; entry = record { lower = omega arith; inside = omega arith } }
 
 -- in a turn the column begins at its diagonal's place, and lies in the matrix
-
 placed : (c : goal.After-packed_place-at)
     → let a = c.args in
     let r = c.loop-r.r in

@@ -33,11 +33,11 @@ slice_bounds-forward_column-end c =
 
 pub forward_column-requires : goal.forward_column-requires
 forward_column-requires c =
-    let a = c.args in (
-      simp (length-take, length-drop) (omega arith),
-      simp (length-take, length-drop)
-          (omega (arith, block_start_next a.n c.loop-k.k (omega arith), block_start_le a.n (c.loop-k.k + 1) (omega arith))),
-    )
+    let a = c.args in record {
+      work_nonzero = simp (length-take, length-drop) (omega arith);
+      column_len = simp (length-take, length-drop)
+          (omega (arith, block_start_next a.n c.loop-k.k (omega arith), block_start_le a.n (c.loop-k.k + 1) (omega arith)));
+    }
 
 pub loop-k-preserved : goal.loop-k-preserved
 loop-k-preserved c =

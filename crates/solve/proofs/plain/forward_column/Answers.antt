@@ -13,7 +13,7 @@ subtract_multiple-requires c = simp (length-take, length-drop, length-set) (omeg
 pub shape_of-work : goal.shape_of-work
 shape_of-work c =
     let v = c.args.work.now in
-    length_returned (length v) 1 (set v 0 _) c.subtract_multiple.new.v (length-set v 0 _) (omega arith) c.subtract_multiple.auto.0
+    length_returned (length v) 1 (set v 0 _) c.subtract_multiple.new.v (length-set v 0 _) (omega arith) c.subtract_multiple.auto.v
 
 pub returns : goal.returns
 returns c =

@@ -16,7 +16,6 @@ use Rattle.solve.proofs.Factors.{packed_trailing}
 use Rattle.solve.proofs.rhs.forward.Goals as goal
 
 -- the part begins in the matrix
-
 start_le : (c : goal.After-block_start-at)
     → let n = c.args.shape.order in
     (c.block_start-at.result ≤ triangle n) × (triangle n ≤ 8002000)
@@ -36,15 +35,12 @@ slice_bounds-forward-start c = omega (arith, start_le c.before)
 pub forward-requires : goal.forward-requires
 forward-requires c =
     let a = c.args in
-    (omega arith, (simp (length-take, length-drop) (omega (arith, triangle_rest a.shape.order a.k (omega arith))), omega arith))
+    record { n_le_max_order = omega arith; matrix_len = simp (length-take, length-drop) (omega (arith, triangle_rest a.shape.order a.k (omega arith))); work_len = omega arith }
 
 pub forward_from-requires : goal.forward_from-requires
 forward_from-requires c =
     let pre = c.requires in
-    let block : T (by_blocks (Solver c.args.layout)) = rw c.in-Blocked.is tt in (
-      record { order = pre.order; block = pre.block block; before = pre.before; values = pre.matrix_length; rows = pre.work_length },
-      pre.inside,
-    )
+    let block : T (by_blocks (Solver c.args.layout)) = rw c.in-Blocked.is tt in record { blocks_from = record { order = pre.order; block = pre.block block; before = pre.before; values = pre.matrix_length; rows = pre.work_length }; k_lt_order = pre.inside }
 
 pub returns-in-Packed : goal.returns-in-Packed
 unfolding place_of

@@ -26,12 +26,12 @@ slice_bounds-solve_cleared-end-2 c =
 
 pub solve_cleared-verdict-requires : goal.solve_cleared-verdict-requires
 solve_cleared-verdict-requires c =
-    let a = c.args in (
-      checked a.layout a.shape a.m a.matrix.now a.rhs.now a.work.now c.check_solver-checks.result
-          c.check_solver-checks.ensures (accepted_of c.accepted.result c.check_solver-checks.result c.accepted.ensures c.if-not-accepted.false-raw),
-      rhs_length_lem a.layout a.shape a.m a.matrix.now a.rhs.now a.work.now c.check_solver-checks.result c.check_solver-checks.ensures
-          (accepted_of c.accepted.result c.check_solver-checks.result c.accepted.ensures c.if-not-accepted.false-raw),
-    )
+    let a = c.args in record {
+      checked = checked a.layout a.shape a.m a.matrix.now a.rhs.now a.work.now c.check_solver-checks.result
+          c.check_solver-checks.ensures (accepted_of c.accepted.result c.check_solver-checks.result c.accepted.ensures c.if-not-accepted.false-raw);
+      rhs_len = rhs_length_lem a.layout a.shape a.m a.matrix.now a.rhs.now a.work.now c.check_solver-checks.result c.check_solver-checks.ensures
+          (accepted_of c.accepted.result c.check_solver-checks.result c.accepted.ensures c.if-not-accepted.false-raw);
+    }
 
 pub returns : goal.returns
 returns c =

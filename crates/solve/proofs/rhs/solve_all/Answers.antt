@@ -11,7 +11,6 @@ use Rattle.solve.proofs.RightSides.{judge_rhs, none_solved, length_solutions, ne
 use Rattle.solve.proofs.rhs.solve_all.Goals as goal
 
 -- as they were. The measure is what is left of m. Assumes nothing.
-
 pub loop-q-init : goal.loop-q-init
 unfolding lowest_refusal
 loop-q-init c = (
@@ -40,17 +39,17 @@ slice_bounds-solve_one-end c =
 
 pub solve_one-requires : goal.solve_one-requires
 solve_one-requires c =
-    let pre = c.requires.checked in (
-      record {
+    let pre = c.requires.checked in record {
+      checked = record {
         order = pre.order;
         block = pre.block;
         before = pre.before;
         inside = pre.inside;
         matrix_length = pre.matrix_length;
         work_length = c.loop-q.invariant.2 ∙ pre.work_length;
-      },
-      search rules,
-    )
+      };
+      rhs_len = search rules;
+    }
 
 pub shape_of-rhs-then-not-solve_one : goal.shape_of-rhs-then-not-solve_one
 shape_of-rhs-then-not-solve_one c =

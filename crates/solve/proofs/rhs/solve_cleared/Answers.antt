@@ -8,4 +8,4 @@ use Rattle.solve.proofs.rhs.solve_cleared.Goals as goal
 
 pub returns : goal.returns
 returns c =
-    (c.solve_all-result.ensures, c.clear.ensures ∙ ap (λ k. replicate k zero64) (c.solve_all-result.auto.1.1.1.1.1.0 ∙ c.requires.checked.work_length ∙ sub-zero _))
+    record { all_solved = c.solve_all-result.ensures; work_after = c.clear.ensures ∙ ap (λ k. replicate k zero64) (c.solve_all-result.auto.work ∙ c.requires.checked.work_length ∙ sub-zero _) }

@@ -20,7 +20,6 @@ loop-c-init c =
     let a = c.args in (omega arith, inl refl, backward_start a.shape.order _ a.work.now c.requires.work_len)
 
 -- a run is a block column of the runs' shape
-
 runs :
     (c : goal.After-new-runs) →
     let s = c.args.shape in
@@ -32,7 +31,6 @@ runs c = (
 )
 
 -- it begins before c, and its values lie in the matrix
-
 first_lt : (c : goal.After-block_of-first) → c.block_of-first.result < c.loop-c.c
 first_lt c = omega (arith, block_of_le c.new-runs.result.block (c.loop-c.c - 1))
 
@@ -47,7 +45,6 @@ start_le c =
     (place, omega (arith, place, block_start_le n f (omega (arith, first_lt c.before))), triangle_le n (omega arith))
 
 -- it ends at c
-
 turn :
     (c : goal.After-block_width-w) →
     let s = c.args.shape in
@@ -71,7 +68,7 @@ pub block_of-first-requires : goal.block_of-first-requires
 block_of-first-requires c = omega (arith, runs c.before.before)
 
 pub block_start-at-requires : goal.block_start-at-requires
-block_start-at-requires c = (omega (arith, runs c.before.before.before), omega (arith, runs c.before.before.before, first_lt c))
+block_start-at-requires c = record { order_le_max_order = omega (arith, runs c.before.before.before); c_le_order = omega (arith, runs c.before.before.before, first_lt c) }
 
 pub block_width-w-requires : goal.block_width-w-requires
 block_width-w-requires c = omega (arith, runs c.before.before.before.before, first_lt c.before)

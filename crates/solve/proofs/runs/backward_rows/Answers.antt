@@ -15,7 +15,7 @@ pub columns-less-requires : goal.columns-less-requires
 columns-less-requires c =
     let a = c.args in
     let full = run_full a.h a.b a.w a.part.now a.work.now c.requires.block_run c.requires.w_lt_h in
-    ((c.requires.block_run.low, c.requires.block_run.high, omega arith, c.requires.block_run.order), (c.requires.block_run.values, omega arith))
+    record { lt_b = (c.requires.block_run.low, c.requires.block_run.high, omega arith, c.requires.block_run.order); h_in_bounds = (c.requires.block_run.values, omega arith) }
 
 pub store_part16-requires : goal.store_part16-requires
 store_part16-requires c =

@@ -14,7 +14,6 @@ use borrow.Author.Rules.{rules}
 use Rattle.solve.proofs.runs.backward_run.Goals as goal
 
 -- the rows below the run being taken, or none being there
-
 under :
     (c : goal.Joined-w-h) →
     let a = c.args in
@@ -31,14 +30,12 @@ under c =
     c.if-w-h.branch
 
 -- the run beside what they left
-
 run : (c : goal.Joined-w-h) → let a = c.args in BlockRun a.h a.b a.w a.part.now c.if-w-h.work
 run c =
     let a = c.args in
     run_beside a.h a.b a.w a.part.now a.work.now c.if-w-h.work c.requires (under c).size
 
 -- its rows are among those of the right-hand side
-
 fits : (c : goal.Joined-w-h) → c.args.w ≤ length c.if-w-h.work
 fits c =
     let a = c.args in
@@ -58,7 +55,6 @@ backward_blocks-requires c =
     rw (c.new.ensures.0, c.new.ensures.1) (run_triangle a.h a.b a.w a.part.now c.if-w-h.work (run c.before.before))
 
 -- then its own rows
-
 own :
     (c : goal.After-slice_known-2-1) →
     let a = c.args in

@@ -13,7 +13,6 @@ use Rattle.kernels.specs.Kernels.{RowsBelow}
 use Rattle.solve.proofs.runs.columns.Goals as goal
 
 -- column j less the products of the last rows
-
 abbrev Reduced : ℕ → ℕ → List Float → ℕ → List Float → ℕ → List Float → List Float → Type 0
 Reduced w b part h v count tile t =
     (j : ℕ) → j < w →
@@ -46,7 +45,6 @@ module _ (w lanes b h count : ℕ) (part v : List Float) (same : b ≡ lanes) (f
   done tile t reduced = rw (← run, same) reduced
 
 -- the block length in the last arm
-
 above : (k b : ℕ) → k ≤ b → (b ≡ k → ⊥) → k + 1 ≤ b
 above k b low other = omega arith
 

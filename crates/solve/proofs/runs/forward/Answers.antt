@@ -19,7 +19,6 @@ loop-c-init c =
     (omega arith, λ p. omega (arith, block_of_le (block_of a.shape.block 16) 0), forward_start a.shape.order _ a.work.now c.requires.work_len)
 
 -- a run is a block column of the runs' shape
-
 runs :
     (c : goal.After-new-runs) →
     let s = c.args.shape in
@@ -31,7 +30,6 @@ runs c = (
 )
 
 -- its values lie in the matrix
-
 start_le :
     (c : goal.After-block_start-at) →
     let n = c.args.shape.order in
@@ -43,7 +41,6 @@ start_le c =
     (place, omega (arith, place, block_start_le n c.loop-c.c (omega arith)), triangle_le n (omega arith))
 
 -- it has columns, and ends with the triangle or before
-
 turn :
     (c : goal.After-block_width-w) →
     let s = c.args.shape in
@@ -61,7 +58,7 @@ turn c =
     )
 
 pub block_start-at-requires : goal.block_start-at-requires
-block_start-at-requires c = (omega (arith, runs c.before.before), omega (arith, runs c.before.before))
+block_start-at-requires c = record { order_le_max_order = omega (arith, runs c.before.before); c_le_order = omega (arith, runs c.before.before) }
 
 pub block_width-w-requires : goal.block_width-w-requires
 block_width-w-requires c = omega (arith, runs c.before.before.before)

@@ -9,7 +9,6 @@ use Rattle.solve.proofs.RunTurns.{run_beside}
 use Rattle.solve.proofs.runs.forward_eights.Goals as goal
 
 -- Assumes nothing.
-
 pub loop-r-init : goal.loop-r-init
 loop-r-init c =
     let a = c.args in
@@ -18,7 +17,7 @@ loop-r-init c =
 pub forward_rows8-requires : goal.forward_rows8-requires
 forward_rows8-requires c =
     let a = c.args in
-    (run_beside a.h a.b a.w a.part.now a.work.now c.loop-r.work c.requires.block_run c.loop-r.invariant.3.size, (omega arith, omega arith, omega arith))
+    record { block_run = run_beside a.h a.b a.w a.part.now a.work.now c.loop-r.work c.requires.block_run c.loop-r.invariant.3.size; w_le_r = (omega arith, omega arith, omega arith) }
 
 pub loop-r-preserved : goal.loop-r-preserved
 loop-r-preserved c =

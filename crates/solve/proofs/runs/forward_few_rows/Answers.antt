@@ -8,11 +8,11 @@ use Rattle.solve.proofs.runs.forward_few_rows.Goals as goal
 
 pub reduce_run-less-requires : goal.reduce_run-less-requires
 reduce_run-less-requires c =
-    let a = c.args in (
-      (omega arith, omega arith, omega (arith, c.first_run.ensures.columns)),
-      run_rows a.h a.b a.w a.part.now a.work.now c.requires.block_run c.first_run.result a.w (a.h - a.w) c.first_run.ensures c.requires.w_lt_h.0
-          (omega arith) (omega arith),
-    )
+    let a = c.args in record {
+      rows_nonzero = (omega arith, omega arith, omega (arith, c.first_run.ensures.columns));
+      rows_below = run_rows a.h a.b a.w a.part.now a.work.now c.requires.block_run c.first_run.result a.w (a.h - a.w) c.first_run.ensures c.requires.w_lt_h.0
+          (omega arith) (omega arith);
+    }
 
 pub returns : goal.returns
 returns c =

@@ -10,10 +10,9 @@ use Rattle.solve.proofs.RunTurns.{run_beside}
 use Rattle.solve.proofs.runs.forward_rows.Goals as goal
 
 pub forward_rows8-requires : goal.forward_rows8-requires
-forward_rows8-requires c = (c.requires.block_run, (omega arith, c.requires.w_bound, omega arith))
+forward_rows8-requires c = record { block_run = c.requires.block_run; w_le_r = (omega arith, c.requires.w_bound, omega arith) }
 
 -- the rows that eights leave, or none
-
 first :
     (c : goal.Joined-left-gt0) →
     let a = c.args in
@@ -29,10 +28,7 @@ first c =
 
 pub forward_eights-requires : goal.forward_eights-requires
 forward_eights-requires c =
-    let a = c.args in (
-      run_beside a.h a.b a.w a.part.now a.work.now c.if-left-gt0.work c.requires.block_run (first c.before).size,
-      (omega arith, omega arith, omega arith),
-    )
+    let a = c.args in record { block_run = run_beside a.h a.b a.w a.part.now a.work.now c.if-left-gt0.work c.requires.block_run (first c.before).size; w_le_from = (omega arith, omega arith, omega arith) }
 
 pub shape_of-work : goal.shape_of-work
 shape_of-work c = c.forward_eights.ensures.size ∙ (first c.before.before.before.before).size

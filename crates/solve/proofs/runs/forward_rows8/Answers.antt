@@ -6,12 +6,12 @@ use Rattle.solve.proofs.runs.forward_rows8.Goals as goal
 
 pub reduce_run-less-requires : goal.reduce_run-less-requires
 reduce_run-less-requires c =
-    let a = c.args in (
-      (omega arith, omega arith, omega (arith, c.first_run.ensures.columns)),
-      run_rows a.h a.b a.w a.part.now a.work.now c.requires.block_run c.first_run.result a.r 8 c.first_run.ensures (omega arith)
+    let a = c.args in record {
+      rows_nonzero = (omega arith, omega arith, omega (arith, c.first_run.ensures.columns));
+      rows_below = run_rows a.h a.b a.w a.part.now a.work.now c.requires.block_run c.first_run.result a.r 8 c.first_run.ensures (omega arith)
           c.requires.w_le_r.0
-          c.requires.w_le_r.1,
-    )
+          c.requires.w_le_r.1;
+    }
 
 pub returns : goal.returns
 returns c =

@@ -31,12 +31,10 @@ forward_blocks-requires c =
     rw (c.new.ensures.0, c.new.ensures.1) (run_triangle a.h a.b a.w a.part.now a.work.now pre)
 
 -- no rows are below the last run
-
 none : (coefficient : ℕ → ℕ → Float) (h w : ℕ) (v : List Float) → w ≡ h → RowsSubtracted coefficient w w h v v
 none coefficient h w v end = rw (sym end) (replaced_none _ w v)
 
 -- its own rows
-
 own :
     (c : goal.After-slice_known-2-1) →
     let a = c.args in
@@ -49,7 +47,6 @@ own c =
     (rw (c.new.ensures.0, c.new.ensures.1) at c.forward_blocks.ensures)
 
 -- the run beside what is left
-
 run :
     (c : goal.After-slice_known-2-1) →
     let a = c.args in
@@ -64,10 +61,10 @@ overflow_add-w c =
     omega (arith, run_le a.h a.b a.w a.part.now a.work.now c.requires)
 
 pub forward_rows-requires : goal.forward_rows-requires
-forward_rows-requires c = (run c.before.before, omega arith)
+forward_rows-requires c = record { block_run = run c.before.before; w_bound = omega arith }
 
 pub forward_few_rows-requires : goal.forward_few_rows-requires
-forward_few_rows-requires c = (run c.before.before.before, (omega arith, omega arith))
+forward_few_rows-requires c = record { block_run = run c.before.before.before; w_lt_h = (omega arith, omega arith) }
 
 pub shape_of-work-then-w-h : goal.shape_of-work-then-w-h
 shape_of-work-then-w-h c = c.forward_rows.ensures.size ∙ (own c.before.before.before.before.before).size

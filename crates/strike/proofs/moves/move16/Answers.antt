@@ -12,7 +12,6 @@ use Rattle.strike.proofs.Rows.{rows_follow}
 use Rattle.strike.proofs.moves.move16.Goals as goal
 
 -- the last of the rows is fifteen above the first, or more
-
 last_row :
     (c : goal.After-shared_slice_known-3-1) →
     let a = c.args in

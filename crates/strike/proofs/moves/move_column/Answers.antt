@@ -11,13 +11,12 @@ use Rattle.strike.proofs.Rows.{ahead_part, moved_next}
 use Rattle.strike.proofs.moves.move_column.Goals as goal
 
 -- Assumes nothing.
-
 pub loop-k-init : goal.loop-k-init
 loop-k-init c = (omega arith, filled_none nan _ _ _)
 
 pub move16-requires : goal.move16-requires
 move16-requires c =
-    (rw c.loop-k.invariant.1.size (ahead_part c.requires.ahead c.loop-k.k 16 c.loop-k-test.true), c.requires.rising)
+    record { ahead = rw c.loop-k.invariant.1.size (ahead_part c.requires.ahead c.loop-k.k 16 c.loop-k-test.true); rising = c.requires.rising }
 
 pub loop-k-preserved : goal.loop-k-preserved
 loop-k-preserved c =

@@ -10,12 +10,10 @@ use Rattle.strike.specs.Rows.{rows_at}
 use Rattle.strike.proofs.moves.move_values.Goals as goal
 
 -- value to be read, which stands at the place that is written next or behind it. The measure is the number of values left. Assumes nothing.
-
 pub loop-k-init : goal.loop-k-init
 loop-k-init c = (omega arith, filled_none nan _ _ _)
 
 -- the place that is read, in the memory
-
 inside :
     (c : goal.In-loop-k) →
     let a = c.args in
@@ -23,7 +21,6 @@ inside :
 inside c = omega (arith, c.requires.inside c.loop-k.k c.loop-k-test.true, c.loop-k.invariant.1.size)
 
 -- and not before the one that is written
-
 ahead :
     (c : goal.In-loop-k) →
     let a = c.args in

@@ -36,7 +36,6 @@ not_below_next y u =
     ]
 
 -- one more than the unknown before position p, or 0
-
 record Following (list : List ℕ) (p next : ℕ) : Type 0 where
   first : p ≡ 0 → next ≡ 0
   later : (x : ℕ) → x + 1 ≡ p → next ≡ get_or list x 0 + 1
@@ -80,7 +79,6 @@ returns-then-n-u c =
     ∙ sym (rises_found a.n a.list.now c.loop-p.p c.loop-p.next c.loop-p.invariant.2 c.loop-p.invariant.1 c.loop-p-test.true c.if-n-u.true)
 
 -- the unknown is below n
-
 unknown_below : (c : goal.Else-n-u) → get_or c.args.list.now c.loop-p.p 0 < c.args.n
 unknown_below c =
     let a = c.args in

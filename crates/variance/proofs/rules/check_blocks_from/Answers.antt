@@ -14,7 +14,6 @@ use Rattle.variance.proofs.ColumnParts.{RowsPassed, rows_start, RowTurn, row_tur
 use Rattle.variance.proofs.rules.check_blocks_from.Goals as goal
 
 -- Assumes nothing.
-
 pub block_width-requires : goal.block_width-requires
 block_width-requires c =
     omega (arith, c.block_of-c.ensures, block_of_le c.args.shape.block c.args.k)
@@ -26,7 +25,7 @@ overflow_add-end c =
 
 pub blocked_place-from-requires : goal.blocked_place-from-requires
 blocked_place-from-requires c =
-    (omega arith, (omega arith, record { lower = omega arith; inside = omega arith }))
+    record { order_le_max_order = omega arith; block_nonzero = omega arith; entry = record { lower = omega arith; inside = omega arith } }
 
 pub loop-i-init : goal.loop-i-init
 loop-i-init c =
@@ -34,7 +33,6 @@ loop-i-init c =
     rw c.blocked_place-from.ensures (rows_start a.shape.order a.shape.block a.k c.requires.order_le_max_order.1 c.requires.order_le_max_order.2 a.matrix.now c.requires.matrix_len)
 
 -- the block column of k ends where the definition says
-
 ends : (c : goal.After-block_width)
     → let a = c.args in
     c.block_of-c.result + c.block_width.result
@@ -45,7 +43,6 @@ ends c =
     ∙ ap (λ q. q + width a.shape.order a.shape.block q) c.block_of-c.ensures
 
 -- and so does row i
-
 row_ends : (c : goal.After-least)
     → let a = c.args in
     c.least.result
@@ -96,7 +93,7 @@ pub block_start-requires : goal.block_start-requires
 block_start-requires c =
     let a = c.args in
     let f = block_of a.shape.block a.k in
-    (omega arith, omega (arith, ends c.before.before.before.before, block_of_le a.shape.block a.k, width_le a.shape.order a.shape.block f))
+    record { order_le_max_order = omega arith; c_le_order = omega (arith, ends c.before.before.before.before, block_of_le a.shape.block a.k, width_le a.shape.order a.shape.block f) }
 
 pub check_part-requires : goal.check_part-requires
 check_part-requires c =

@@ -20,7 +20,6 @@ check_part-requires c =
     (omega (arith, c.block_start.ensures, block_start_le a.shape.order a.k (omega arith)), omega arith)
 
 -- the block length is above 0
-
 positive : (c : goal.In-Blocked) → 0 < c.args.shape.block
 positive c = c.requires.block_nonzero (rw c.in-Blocked.is tt)
 
@@ -46,7 +45,7 @@ returns-then-block_of-k c =
 
 pub check_blocks_from-requires : goal.check_blocks_from-requires
 check_blocks_from-requires c =
-    ((c.requires.order_le_max_order.0, positive c.before.before, c.requires.order_le_max_order.1), c.requires.matrix_len)
+    record { order_le_max_order = (c.requires.order_le_max_order.0, positive c.before.before, c.requires.order_le_max_order.1); matrix_len = c.requires.matrix_len }
 
 pub returns-in-Packed : goal.returns-in-Packed
 unfolding place_of

@@ -21,7 +21,6 @@ returns-then-accepted c =
     c.check_finite-found.ensures ∙ finite_success 6 part (rw passed tt) ∙ sym (part_accepted a.matrix.now a.from a.to fits (rw passed tt))
 
 -- a refused part
-
 refused : (c : goal.Else-accepted) →
     let a = c.args in
     accepted (finite_rule 7 (take (a.to - a.from) (drop a.from a.matrix.now))) ≡ false

@@ -83,7 +83,7 @@ returns-then-k-shape c =
 pub check_columns_from-values-requires : goal.check_columns_from-values-requires
 check_columns_from-values-requires c =
     let known = settled c.before.before in
-    ((known.order, omega arith), (known.block_low, known.matrix))
+    record { order_le_max_order = (known.order, omega arith); block_nonzero = known.block_low; matrix_len = known.matrix }
 
 pub returns-then-not-accepted-2 : goal.returns-then-not-accepted-2
 returns-then-not-accepted-2 c =
@@ -95,7 +95,7 @@ returns-then-not-accepted-2 c =
 pub check_diagonal-requires : goal.check_diagonal-requires
 check_diagonal-requires c =
     let known = settled c.before.before.before.before.before in
-    (known.order, (λ t. known.block_low (solver_blocks c.args.layout t), (omega arith, known.matrix)))
+    record { order_le_max_order = known.order; block_nonzero = λ t. known.block_low (solver_blocks c.args.layout t); k_le_order = omega arith; matrix_len = known.matrix }
 
 pub returns : goal.returns
 returns c =

@@ -27,10 +27,7 @@ slice_bounds-evaluate_cleared-end-2 c =
 pub evaluate_cleared-verdict-requires : goal.evaluate_cleared-verdict-requires
 evaluate_cleared-verdict-requires c =
     let a = c.args in
-    let passed = accepted_of c.accepted.result c.check_variance-checks.result c.accepted.ensures c.if-not-accepted.false-raw in (
-      checked a.layout a.shape a.k a.matrix.now a.work.now c.check_variance-checks.result c.check_variance-checks.ensures passed,
-      unknown_inside a.layout a.shape a.k a.matrix.now a.work.now c.check_variance-checks.result c.check_variance-checks.ensures passed,
-    )
+    let passed = accepted_of c.accepted.result c.check_variance-checks.result c.accepted.ensures c.if-not-accepted.false-raw in record { checked = checked a.layout a.shape a.k a.matrix.now a.work.now c.check_variance-checks.result c.check_variance-checks.ensures passed; k_lt_order = unknown_inside a.layout a.shape a.k a.matrix.now a.work.now c.check_variance-checks.result c.check_variance-checks.ensures passed }
 
 pub returns : goal.returns
 returns c =
