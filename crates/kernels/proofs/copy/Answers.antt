@@ -1,7 +1,6 @@
 -- `kernels::copy` meets its contract: a part that is all of a list. Assumes nothing.
 use native.Mathlib.Nat.{zero-add}
 use native.Mathlib.Omega.{arith}
-use borrow.Author.Rules.{rules}
 use lib.Seq.{ext_get_or}
 use lib.Ieee.{nan}
 use Rattle.kernels.proofs.copy.Goals as goal

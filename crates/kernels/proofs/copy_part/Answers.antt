@@ -1,9 +1,7 @@
 -- `kernels::copy_part` meets its contract. The invariant of its loop: the first k values are copied. Assumes nothing.
-use Prim.Native.Nat.{◌-◌, ◌≤◌}
 use native.Mathlib.Omega.{arith}
 use mathlib.Core.Path.{◌≡◌, refl}
 use lib.Ieee.{nan}
-use Rattle.kernels.specs.Kernels.{Filled, row_at}
 use Rattle.kernels.proofs.Parts.{filled_none, filled_next}
 use Rattle.kernels.proofs.copy_part.Goals as goal
 

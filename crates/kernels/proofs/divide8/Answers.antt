@@ -1,12 +1,10 @@
 -- `kernels::divide8` meets its contract. Assumes nothing.
 use borrow.Author.Rules.{rules}
-use Prim.Native.Nat.{◌-◌, ◌≤◌}
 use native.Mathlib.Nat.{le_refl}
 use native.Mathlib.Omega.{arith}
-use mathlib.Core.Path.{◌≡◌, ap, ◌∙◌}
-use lib.ListN.{length, get_or}
+use mathlib.Core.Path.{ap, ◌∙◌}
 use lib.Ieee.{Float, nan, binary64, div}
-use Rattle.kernels.proofs.Loops.{Stored, stored_none, stored_next}
+use Rattle.kernels.proofs.Loops.{stored_none, stored_next}
 use Rattle.kernels.proofs.divide8.Goals as goal
 
 pub loop-s-init : goal.loop-s-init

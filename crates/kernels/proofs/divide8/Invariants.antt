@@ -1,12 +1,9 @@
 -- `kernels::divide8` meets its contract. Assumes nothing.
-use borrow.Author.Rules.{rules}
 use Prim.Native.Nat.{◌-◌, ◌≤◌}
-use native.Mathlib.Nat.{le_refl}
-use native.Mathlib.Omega.{arith}
-use mathlib.Core.Path.{◌≡◌, ap, ◌∙◌}
+use mathlib.Core.Path.{◌≡◌}
 use lib.ListN.{length, get_or}
-use lib.Ieee.{Float, nan, binary64, div}
-use Rattle.kernels.proofs.Loops.{Stored, stored_none, stored_next}
+use lib.Ieee.{nan, binary64, div}
+use Rattle.kernels.proofs.Loops.{Stored}
 use Rattle.kernels.proofs.divide8.Given as goal
 
 abbrev pub invariant-loop-s : goal.invariant-loop-s

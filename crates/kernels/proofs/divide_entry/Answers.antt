@@ -1,5 +1,4 @@
 -- `kernels::divide_entry` meets its contract. Assumes nothing.
-use borrow.Author.Rules.{rules}
 use Rattle.kernels.proofs.divide_entry.Goals as goal
 
 pub returns : goal.returns

@@ -1,10 +1,9 @@
 -- `kernels::gather_part8` meets its contract. The invariant of its loop: the first s values are taken. Assumes nothing.
 use Prim.Native.Nat.{◌+◌, ◌-◌, ◌≤◌}
-use native.Mathlib.Omega.{arith}
-use mathlib.Core.Path.{◌≡◌, refl}
+use mathlib.Core.Path.{◌≡◌}
 use lib.ListN.{length, get_or}
 use lib.Ieee.{nan}
-use Rattle.kernels.proofs.Loops.{Stored, stored_none, stored_next}
+use Rattle.kernels.proofs.Loops.{Stored}
 use Rattle.kernels.proofs.gather_part8.Given as goal
 
 abbrev pub invariant-loop-s : goal.invariant-loop-s

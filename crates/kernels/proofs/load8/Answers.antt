@@ -1,10 +1,8 @@
 -- `kernels::load8` meets its contract. The invariant of its loop: the first s values are taken. Assumes nothing.
-use Prim.Native.Nat.{◌+◌, ◌-◌, ◌≤◌}
 use native.Mathlib.Omega.{arith}
-use mathlib.Core.Path.{◌≡◌, refl}
-use lib.ListN.{length, get_or}
+use mathlib.Core.Path.{refl}
 use lib.Ieee.{nan}
-use Rattle.kernels.proofs.Loops.{Stored, stored_none, stored_next}
+use Rattle.kernels.proofs.Loops.{stored_none, stored_next}
 use Rattle.kernels.proofs.load8.Goals as goal
 
 pub loop-s-init : goal.loop-s-init

@@ -1,9 +1,6 @@
 -- `kernels::minus_products` meets its contract. The invariant of its loop: the first k products are subtracted. Assumes nothing.
-use Prim.Native.Nat.{◌-◌, ◌≤◌}
 use native.Mathlib.Omega.{arith}
 use mathlib.Core.Path.{◌≡◌, sym}
-use Rattle.calls.specs.Arithmetic.{minus_products}
-use Rattle.kernels.specs.Kernels.{row_at}
 use Rattle.kernels.proofs.Products.{minus_none, minus_next}
 use Rattle.kernels.proofs.minus_products.Goals as goal
 

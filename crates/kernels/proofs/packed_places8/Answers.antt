@@ -1,10 +1,7 @@
 -- `kernels::packed_places8` meets its contract. The loop's invariant: the first k places are stored. The measure is the number of places
-use mathlib.Core.Path.{◌≡◌, refl}
-use Prim.Native.Nat.{◌+◌, ◌-◌, ◌≤◌}
+use mathlib.Core.Path.{refl}
 use native.Mathlib.Omega.{arith}
-use lib.ListN.{length}
-use Rattle.shape.specs.Places.{packed_place}
-use Rattle.kernels.proofs.Loops.{Stored, stored_none, stored_next}
+use Rattle.kernels.proofs.Loops.{stored_none, stored_next}
 use Rattle.kernels.proofs.packed_places8.Goals as goal
 
 -- left. Assumes nothing.

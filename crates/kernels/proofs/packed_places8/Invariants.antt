@@ -1,10 +1,9 @@
 -- `kernels::packed_places8` meets its contract. The loop's invariant: the first k places are stored. The measure is the number of places
-use mathlib.Core.Path.{◌≡◌, refl}
+use mathlib.Core.Path.{◌≡◌}
 use Prim.Native.Nat.{◌+◌, ◌-◌, ◌≤◌}
-use native.Mathlib.Omega.{arith}
 use lib.ListN.{length}
 use Rattle.shape.specs.Places.{packed_place}
-use Rattle.kernels.proofs.Loops.{Stored, stored_none, stored_next}
+use Rattle.kernels.proofs.Loops.{Stored}
 use Rattle.kernels.proofs.packed_places8.Given as goal
 
 abbrev pub invariant-loop-k : goal.invariant-loop-k

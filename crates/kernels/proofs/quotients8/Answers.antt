@@ -8,7 +8,6 @@ use Rattle.calls.specs.Arithmetic.{minus_products}
 use Rattle.kernels.proofs.Parts.{length_part}
 use Rattle.kernels.proofs.Products.{rising_part}
 use Rattle.kernels.specs.Kernels.{row_at}
-use borrow.Author.Rules.{rules}
 use Rattle.kernels.proofs.quotients8.Goals as goal
 
 pub subtract_rising8-reduced-requires : goal.subtract_rising8-reduced-requires

@@ -1,10 +1,9 @@
 -- `kernels::scatter8` meets its contract. Assumes nothing.
-use Prim.Native.Nat.{ℕ, ◌+◌, ◌-◌, ◌≤◌}
+use Prim.Native.Nat.{ℕ, ◌+◌}
 use native.Mathlib.Omega.{arith}
 use mathlib.Core.Path.{◌≡◌, refl}
 use lib.ListN.{get_or}
 use lib.Ieee.{nan}
-use Rattle.kernels.specs.Kernels.{Scattered}
 use Rattle.kernels.proofs.Loops.{scattered_none, scattered_next}
 use Rattle.kernels.proofs.scatter8.Goals as goal
 

@@ -1,11 +1,8 @@
 -- `kernels::scatter8` meets its contract. Assumes nothing.
-use Prim.Native.Nat.{ℕ, ◌+◌, ◌-◌, ◌≤◌}
-use native.Mathlib.Omega.{arith}
-use mathlib.Core.Path.{◌≡◌, refl}
+use Prim.Native.Nat.{◌+◌, ◌-◌, ◌≤◌}
 use lib.ListN.{get_or}
 use lib.Ieee.{nan}
 use Rattle.kernels.specs.Kernels.{Scattered}
-use Rattle.kernels.proofs.Loops.{scattered_none, scattered_next}
 use Rattle.kernels.proofs.scatter8.Given as goal
 
 abbrev pub invariant-loop-s : goal.invariant-loop-s

@@ -1,12 +1,12 @@
 -- `kernels::step8` meets its contract. The invariant of its loop: the first s values are reduced. Assumes nothing.
-use Prim.Native.Nat.{◌+◌, ◌-◌, ◌≤◌}
+use Prim.Native.Nat.{◌+◌}
 use native.Mathlib.Nat.{le_refl}
 use native.Mathlib.Omega.{arith}
-use mathlib.Core.Path.{ap, ◌≡◌}
+use mathlib.Core.Path.{ap}
 use borrow.Author.Rules.{rules}
-use lib.ListN.{length, get_or}
+use lib.ListN.{get_or}
 use lib.Ieee.{Float, nan, binary64, sub, mul}
-use Rattle.kernels.proofs.Loops.{Stored, stored_none, stored_next}
+use Rattle.kernels.proofs.Loops.{stored_none, stored_next}
 use Rattle.kernels.proofs.step8.Goals as goal
 
 pub loop-s-init : goal.loop-s-init
@@ -27,7 +27,7 @@ loop-s-preserved c =
       omega arith,
       c.loop-s.invariant.1,
       stored_next nan _ _ c.loop-s.s c.loop-s.next _ (omega arith) c.loop-s.invariant.2
-          (ap (λ (u : Float). sub binary64 u (mul binary64 (get_or a.x.now (get_or a.t3 c.loop-s.s 0 + a.k) nan) a.y))
+          (ap (λ (u : Float). sub binary64 u (mul binary64 (get_or a.x.now (get_or a.at c.loop-s.s 0 + a.k) nan) a.y))
           (c.loop-s.invariant.2.rest c.loop-s.s (le_refl _))),
     )
 

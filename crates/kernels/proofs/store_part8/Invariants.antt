@@ -1,10 +1,7 @@
 -- `kernels::store_part8` meets its contract. The invariant of its loop: the first s values are stored. Assumes nothing.
 use Prim.Native.Nat.{◌-◌, ◌≤◌}
-use native.Mathlib.Omega.{arith}
-use mathlib.Core.Path.{◌≡◌, refl}
 use lib.Ieee.{nan}
 use Rattle.kernels.specs.Kernels.{Replaced}
-use Rattle.kernels.proofs.Parts.{filled_none, filled_next}
 use Rattle.kernels.proofs.store_part8.Given as goal
 
 abbrev pub invariant-loop-s : goal.invariant-loop-s

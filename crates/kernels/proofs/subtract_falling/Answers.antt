@@ -1,9 +1,8 @@
 -- `kernels::subtract_falling` meets its contract. The invariant of its loop: the products from k on are subtracted. Assumes nothing.
-use Prim.Native.Nat.{◌-◌, ◌≤◌}
+use Prim.Native.Nat.{◌-◌}
 use native.Mathlib.Omega.{arith}
 use mathlib.Core.Path.{◌≡◌, sym}
 use lib.ListN.{length}
-use Rattle.kernels.specs.Kernels.{falling_from}
 use Rattle.kernels.proofs.Products.{minus_none, falling_next}
 use Rattle.kernels.proofs.subtract_falling.Goals as goal
 

@@ -1,10 +1,8 @@
 -- `kernels::subtract_falling` meets its contract. The invariant of its loop: the products from k on are subtracted. Assumes nothing.
 use Prim.Native.Nat.{◌-◌, ◌≤◌}
-use native.Mathlib.Omega.{arith}
-use mathlib.Core.Path.{◌≡◌, sym}
+use mathlib.Core.Path.{◌≡◌}
 use lib.ListN.{length}
 use Rattle.kernels.specs.Kernels.{falling_from}
-use Rattle.kernels.proofs.Products.{minus_none, falling_next}
 use Rattle.kernels.proofs.subtract_falling.Given as goal
 
 abbrev pub invariant-loop-k : goal.invariant-loop-k

@@ -1,10 +1,8 @@
 -- `kernels::subtract_falling8` meets its contract. The invariant of its loop: the products from k on are subtracted from each value. Assumes nothing.
-use Prim.Native.Nat.{ℕ, ◌-◌, ◌≤◌, ◌<◌}
+use Prim.Native.Nat.{◌-◌}
 use native.Mathlib.Omega.{arith}
 use mathlib.Core.Path.{◌≡◌, sym, ◌∙◌}
 use lib.ListN.{length, get_or}
-use lib.Ieee.{nan}
-use Rattle.kernels.specs.Kernels.{falling_from}
 use Rattle.kernels.proofs.Products.{minus_none, falling_next}
 use Rattle.kernels.proofs.subtract_falling8.Goals as goal
 

@@ -1,9 +1,7 @@
 -- `kernels::subtract_rising` meets its contract. The invariant of its loop: the first k products are subtracted. Assumes nothing.
-use Prim.Native.Nat.{◌-◌, ◌≤◌}
 use native.Mathlib.Omega.{arith}
 use mathlib.Core.Path.{◌≡◌, sym}
 use lib.ListN.{length}
-use Rattle.kernels.specs.Kernels.{rising_from}
 use Rattle.kernels.proofs.Products.{minus_none, minus_next}
 use Rattle.kernels.proofs.subtract_rising.Goals as goal
 

@@ -1,10 +1,7 @@
 -- `kernels::subtract_rising8` meets its contract. The invariant of its loop: the first k products are subtracted from each value. Assumes nothing.
-use Prim.Native.Nat.{ℕ, ◌-◌, ◌≤◌, ◌<◌}
 use native.Mathlib.Omega.{arith}
 use mathlib.Core.Path.{◌≡◌, sym, ◌∙◌}
-use lib.ListN.{length, get_or}
-use lib.Ieee.{nan}
-use Rattle.kernels.specs.Kernels.{rising_from}
+use lib.ListN.{length}
 use Rattle.kernels.proofs.Products.{minus_none, minus_next}
 use Rattle.kernels.proofs.subtract_rising8.Goals as goal
 

@@ -1,11 +1,10 @@
 -- `kernels::columns::reduce_columns` meets its contract. The invariant of its loop: the products of the last k rows are subtracted. Assumes nothing.
-use Prim.Native.Nat.{ℕ, ◌-◌, ◌≤◌, ◌<◌}
+use Prim.Native.Nat.{◌-◌}
 use native.Mathlib.Omega.{arith}
 use mathlib.Core.Path.{◌≡◌, refl, sym, ap, ◌∙◌}
 use lib.ListN.{get_or}
 use lib.Ieee.{Float, nan, binary64, sub, mul}
 use Rattle.shape.specs.Places.{blocked_place}
-use Rattle.calls.specs.Arithmetic.{minus_products}
 use Rattle.kernels.proofs.Products.{minus_none, minus_next}
 use Rattle.kernels.proofs.columns.reduce_columns.Goals as goal
 
@@ -13,9 +12,9 @@ pub loop-k-init : goal.loop-k-init
 loop-k-init c = (omega arith, λ j p. sym (minus_none _ _ _))
 
 pub step_columns-step-requires : goal.step_columns-step-requires
-step_columns-step-requires c = (
-  c.requires.w_bound.0,
-  record {
+step_columns-step-requires c = record {
+  w_bound = c.requires.w_bound.0;
+  rows_below = record {
     order = c.requires.rows_below.order;
     block = c.requires.rows_below.block;
     block_high = c.requires.rows_below.block_high;
@@ -25,8 +24,8 @@ step_columns-step-requires c = (
     above = omega (arith, c.requires.rows_below.above);
     inside = omega arith;
     size = c.requires.rows_below.size;
-  },
-)
+  };
+}
 
 pub loop-k-preserved : goal.loop-k-preserved
 loop-k-preserved c =

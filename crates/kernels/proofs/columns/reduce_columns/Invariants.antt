@@ -1,12 +1,10 @@
 -- `kernels::columns::reduce_columns` meets its contract. The invariant of its loop: the products of the last k rows are subtracted. Assumes nothing.
 use Prim.Native.Nat.{ℕ, ◌-◌, ◌≤◌, ◌<◌}
-use native.Mathlib.Omega.{arith}
-use mathlib.Core.Path.{◌≡◌, refl, sym, ap, ◌∙◌}
+use mathlib.Core.Path.{◌≡◌}
 use lib.ListN.{get_or}
-use lib.Ieee.{Float, nan, binary64, sub, mul}
+use lib.Ieee.{nan}
 use Rattle.shape.specs.Places.{blocked_place}
 use Rattle.calls.specs.Arithmetic.{minus_products}
-use Rattle.kernels.proofs.Products.{minus_none, minus_next}
 use Rattle.kernels.proofs.columns.reduce_columns.Given as goal
 
 abbrev pub invariant-loop-k : goal.invariant-loop-k

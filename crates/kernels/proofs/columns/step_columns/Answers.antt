@@ -1,22 +1,18 @@
 -- `kernels::columns::step_columns` meets its contract. The invariant of its loop: the first k columns, whole block columns, are done, and x is the
-use Prim.Native.Nat.{◌+◌, ◌-◌, ◌*◌, ◌≤◌, ◌<◌}
+use Prim.Native.Nat.{◌+◌, ◌-◌, ◌*◌, ◌≤◌}
 use native.Mathlib.Nat.{mul-le-mul}
 use native.Mathlib.Omega.{arith}
 use mathlib.Core.Path.{◌≡◌, ap, ◌∙◌}
 use lib.Ieee.{nan}
-use Rattle.shape.specs.Places.{triangle, block_of}
+use Rattle.shape.specs.Places.{triangle}
 use Rattle.shape.proofs.Bounds.{product_fits}
 use Rattle.shape.proofs.Columns.{triangle_exact, block_start_zero}
 use Rattle.shape.proofs.Blocks.{block_of_le, block_of_next, block_before}
-use Rattle.kernels.specs.Kernels.{Filled}
 use Rattle.kernels.proofs.Parts.{filled_none}
-use Rattle.kernels.proofs.Runs.{square_ge, row_place, row_inside, next_place, row_turn, less_row, columns_next}
+use Rattle.kernels.proofs.Runs.{square_ge, row_inside, next_place, row_turn, columns_next}
 use Rattle.kernels.proofs.columns.step_columns.Goals as goal
 
 -- place of row i in the next one. Assumes nothing.
-corner : (c : goal.After-triangle) → c.triangle.result ≡ triangle c.args.b
-corner c = c.triangle.ensures ∙ ap triangle c.new.ensures.0
-
 pub overflow_mul-step : goal.overflow_mul-step
 overflow_mul-step c = omega (arith, c.requires.rows_below.block_high)
 
@@ -32,7 +28,7 @@ pub triangle-requires : goal.triangle-requires
 triangle-requires c = omega (arith, c.new.ensures, c.requires.rows_below.block_high)
 
 pub overflow_sub-step : goal.overflow_sub-step
-overflow_sub-step c = omega (arith, corner c, triangle_exact c.args.b, square_ge c.args.b)
+overflow_sub-step c = omega (arith, c.triangle.ensures ∙ ap triangle c.new.ensures.0, triangle_exact c.args.b, square_ge c.args.b)
 
 pub place_in_block-x-requires : goal.place_in_block-x-requires
 place_in_block-x-requires c = omega (arith, c.requires.rows_below.inside, c.requires.rows_below.order)
@@ -44,7 +40,7 @@ loop-k-init c =
       omega arith,
       omega (arith, block_of_le a.b 0),
       λ some. rw none (omega (arith, c.place_in_block-x.ensures, block_start_zero a.h)),
-      omega (arith, corner c.before),
+      omega (arith, c.triangle.ensures ∙ ap triangle c.new.ensures.0),
       filled_none nan 0 _ _,
     )
 

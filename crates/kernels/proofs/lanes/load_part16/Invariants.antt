@@ -1,10 +1,9 @@
 -- `kernels::lanes::load_part16` meets its contract. Assumes nothing.
-use native.Mathlib.Omega.{arith}
 use Prim.Native.Nat.{◌+◌, ◌-◌, ◌≤◌}
-use mathlib.Core.Path.{◌≡◌, refl}
+use mathlib.Core.Path.{◌≡◌}
 use lib.ListN.{length, get_or}
 use lib.Ieee.{nan}
-use Rattle.kernels.proofs.Loops.{Stored, stored_none, stored_next}
+use Rattle.kernels.proofs.Loops.{Stored}
 use Rattle.kernels.proofs.lanes.load_part16.Given as goal
 
 abbrev pub invariant-loop-s : goal.invariant-loop-s

@@ -1,8 +1,6 @@
 -- `kernels::lanes::pack_lane` meets its contract. Assumes nothing.
-use Prim.Native.Nat.{◌+◌, ◌-◌, ◌*◌, ◌≤◌}
 use native.Mathlib.Omega.{arith}
 use mathlib.Core.Path.{◌≡◌, refl}
-use Rattle.kernels.specs.Kernels.{row_at, Scattered}
 use Rattle.kernels.proofs.Grids.{lane_end}
 use Rattle.kernels.proofs.Loops.{scattered_none, scattered_next}
 use Rattle.kernels.proofs.lanes.pack_lane.Goals as goal

@@ -1,12 +1,9 @@
 -- `kernels::lanes::step16` meets its contract. The invariant of its loop: the first s values are reduced. Assumes nothing.
 use Prim.Native.Nat.{◌+◌, ◌-◌, ◌≤◌}
-use native.Mathlib.Nat.{le_refl}
-use native.Mathlib.Omega.{arith}
-use mathlib.Core.Path.{◌≡◌, ap}
-use borrow.Author.Rules.{rules}
+use mathlib.Core.Path.{◌≡◌}
 use lib.ListN.{length, get_or}
-use lib.Ieee.{Float, nan, binary64, sub, mul}
-use Rattle.kernels.proofs.Loops.{Stored, stored_none, stored_next}
+use lib.Ieee.{nan, binary64, sub, mul}
+use Rattle.kernels.proofs.Loops.{Stored}
 use Rattle.kernels.proofs.lanes.step16.Given as goal
 
 abbrev pub invariant-loop-s : goal.invariant-loop-s

@@ -1,10 +1,7 @@
 -- `kernels::lanes::store_part16` meets its contract. Assumes nothing.
-use native.Mathlib.Omega.{arith}
 use Prim.Native.Nat.{◌-◌, ◌≤◌}
-use mathlib.Core.Path.{◌≡◌, refl}
 use lib.Ieee.{nan}
 use Rattle.kernels.specs.Kernels.{Replaced}
-use Rattle.kernels.proofs.Parts.{filled_none, filled_next}
 use Rattle.kernels.proofs.lanes.store_part16.Given as goal
 
 abbrev pub invariant-loop-s : goal.invariant-loop-s

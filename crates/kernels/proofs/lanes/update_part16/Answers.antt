@@ -3,7 +3,6 @@ use native.Mathlib.Omega.{arith}
 use mathlib.Core.Path.{◌≡◌}
 use Rattle.kernels.proofs.Grids.{row16_reduced}
 use Rattle.kernels.proofs.Products.{filled_lanes}
-use borrow.Author.Rules.{rules}
 use Rattle.kernels.proofs.lanes.update_part16.Goals as goal
 
 pub reduce_block-lanes-requires : goal.reduce_block-lanes-requires

@@ -1,11 +1,8 @@
 -- `kernels::tiles::load_tile` meets its contract. The invariant of its loop: the first r rows are loaded. Assumes nothing.
-use Prim.Native.Nat.{◌+◌, ◌-◌, ◌*◌, ◌≤◌}
 use native.Mathlib.Omega.{arith}
 use mathlib.Core.Path.{◌≡◌, refl}
 use borrow.Author.Rules.{rules}
-use lib.ListN.{length, get_or}
-use lib.Ieee.{nan}
-use Rattle.kernels.proofs.Grids.{RowsSet, row_end, rows_none, rows_next}
+use Rattle.kernels.proofs.Grids.{row_end, rows_none, rows_next}
 use Rattle.kernels.proofs.tiles.load_tile.Goals as goal
 
 pub loop-r-init : goal.loop-r-init

@@ -1,11 +1,9 @@
 -- `kernels::tiles::load_tile` meets its contract. The invariant of its loop: the first r rows are loaded. Assumes nothing.
 use Prim.Native.Nat.{◌+◌, ◌-◌, ◌*◌, ◌≤◌}
-use native.Mathlib.Omega.{arith}
-use mathlib.Core.Path.{◌≡◌, refl}
-use borrow.Author.Rules.{rules}
+use mathlib.Core.Path.{◌≡◌}
 use lib.ListN.{length, get_or}
 use lib.Ieee.{nan}
-use Rattle.kernels.proofs.Grids.{RowsSet, row_end, rows_none, rows_next}
+use Rattle.kernels.proofs.Grids.{RowsSet}
 use Rattle.kernels.proofs.tiles.load_tile.Given as goal
 
 abbrev pub invariant-loop-r : goal.invariant-loop-r

@@ -1,11 +1,10 @@
 -- `kernels::tiles::reduce_block` meets its contract. The invariant of its loop: every value is less its first k products. Assumes nothing.
-use Prim.Native.Nat.{◌+◌, ◌-◌, ◌*◌, ◌≤◌}
+use Prim.Native.Nat.{◌+◌, ◌*◌}
 use native.Mathlib.Omega.{arith}
 use mathlib.Core.Path.{◌≡◌, sym}
 use lib.ListN.{get_or}
 use lib.Ieee.{nan}
-use Rattle.calls.specs.Arithmetic.{minus_products}
-use Rattle.kernels.specs.Kernels.{TileIs, tile_at, row_at}
+use Rattle.kernels.specs.Kernels.{row_at}
 use Rattle.kernels.proofs.Grids.{lane_end, tile_next}
 use Rattle.kernels.proofs.Products.{minus_none}
 use Rattle.kernels.proofs.tiles.reduce_block.Goals as goal

@@ -1,16 +1,10 @@
 -- `kernels::tiles::reduce_run` meets its contract. The invariant of its loop: every value is less the products of the first k columns, whole block
 use Prim.Native.Nat.{◌+◌, ◌-◌, ◌*◌, ◌≤◌, ◌<◌}
-use native.Mathlib.Nat.{mul-le-mul, mul-le-mul_left}
-use native.Mathlib.Omega.{arith}
-use mathlib.Core.Path.{◌≡◌, refl, sym}
+use mathlib.Core.Path.{◌≡◌}
 use Rattle.shape.specs.Places.{block_of}
-use Rattle.shape.proofs.Bounds.{product_fits}
-use Rattle.shape.proofs.Columns.{triangle_exact}
-use Rattle.shape.proofs.Blocks.{block_of_le, block_of_next, block_before}
 use Rattle.calls.specs.Arithmetic.{minus_products}
 use Rattle.kernels.specs.Kernels.{TileIs, tile_at, run_at, lane_at}
-use Rattle.kernels.proofs.Products.{minus_none}
-use Rattle.kernels.proofs.Runs.{square_ge, row_place, row_inside, next_place, row_begins, row_turn, run_next}
+use Rattle.kernels.proofs.Runs.{row_place}
 use Rattle.kernels.proofs.tiles.reduce_run.Given as goal
 
 abbrev pub invariant-loop-k : goal.invariant-loop-k

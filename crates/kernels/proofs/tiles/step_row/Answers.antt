@@ -1,12 +1,11 @@
 -- `kernels::tiles::step_row` meets its contract. Assumes nothing.
-use Prim.Native.Nat.{◌+◌, ◌-◌, ◌≤◌}
+use Prim.Native.Nat.{◌+◌}
 use native.Mathlib.Nat.{le_refl}
 use native.Mathlib.Omega.{arith}
 use mathlib.Core.Path.{◌≡◌, ap}
 use borrow.Author.Rules.{rules}
-use lib.ListN.{length, get_or}
+use lib.ListN.{get_or}
 use lib.Ieee.{Float, nan, binary64, sub, mul}
-use Rattle.kernels.specs.Kernels.{Filled}
 use Rattle.kernels.proofs.Parts.{filled_none, filled_next}
 use Rattle.kernels.proofs.tiles.step_row.Goals as goal
 

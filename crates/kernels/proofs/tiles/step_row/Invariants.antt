@@ -1,13 +1,9 @@
 -- `kernels::tiles::step_row` meets its contract. Assumes nothing.
 use Prim.Native.Nat.{◌+◌, ◌-◌, ◌≤◌}
-use native.Mathlib.Nat.{le_refl}
-use native.Mathlib.Omega.{arith}
-use mathlib.Core.Path.{◌≡◌, ap}
-use borrow.Author.Rules.{rules}
+use mathlib.Core.Path.{◌≡◌}
 use lib.ListN.{length, get_or}
-use lib.Ieee.{Float, nan, binary64, sub, mul}
+use lib.Ieee.{nan, binary64, sub, mul}
 use Rattle.kernels.specs.Kernels.{Filled}
-use Rattle.kernels.proofs.Parts.{filled_none, filled_next}
 use Rattle.kernels.proofs.tiles.step_row.Given as goal
 
 abbrev pub invariant-loop-s : goal.invariant-loop-s

@@ -1,12 +1,12 @@
 -- `kernels::tiles::step_tile` meets its contract. The invariant of its loop: the first r rows have their product subtracted. Assumes nothing.
-use Prim.Native.Nat.{◌+◌, ◌-◌, ◌*◌, ◌≤◌}
+use Prim.Native.Nat.{◌+◌, ◌*◌}
 use native.Mathlib.Nat.{le_refl}
 use native.Mathlib.Omega.{arith}
 use mathlib.Core.Path.{◌≡◌, ap, ◌∙◌}
 use lib.ListN.{get_or}
 use lib.Ieee.{Float, nan, binary64, sub, mul}
 use Rattle.kernels.specs.Kernels.{tile_at}
-use Rattle.kernels.proofs.Grids.{RowsSet, row_end, rows_none, rows_next, step_row}
+use Rattle.kernels.proofs.Grids.{row_end, rows_none, rows_next, step_row}
 use Rattle.kernels.proofs.tiles.step_tile.Goals as goal
 
 pub loop-r-init : goal.loop-r-init

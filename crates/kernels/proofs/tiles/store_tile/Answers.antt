@@ -1,9 +1,6 @@
 -- `kernels::tiles::store_tile` meets its contract. The invariant of its loop: the first r rows are stored. Assumes nothing.
-use Prim.Native.Nat.{◌-◌, ◌≤◌}
 use native.Mathlib.Omega.{arith}
 use mathlib.Core.Path.{◌≡◌}
-use borrow.Author.Rules.{rules}
-use Rattle.kernels.specs.Kernels.{GridFilled, tile_at}
 use Rattle.kernels.proofs.Grids.{row_end, grid_none, grid_next}
 use Rattle.kernels.proofs.tiles.store_tile.Goals as goal
 
