@@ -8,7 +8,6 @@ use lib.Seq.{take_all}
 use Rattle.binary64.specs.Kinds.{finite}
 use Rattle.calls.specs.Sequences.{all}
 use Rattle.calls.proofs.Sequences.{all_parts}
-use borrow.Author.Rules.{rules}
 use Rattle.checks.proofs.all_finite.Goals as goal
 
 pub returns : goal.returns

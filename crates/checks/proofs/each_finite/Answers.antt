@@ -1,9 +1,6 @@
 -- `checks::each_finite` meets its contract. The loop's invariant: `passed` says whether the first k values are finite. The measure is what is left of
-use Prim.Native.Nat.{◌-◌, ◌≤◌}
 use native.Mathlib.Omega.{arith}
-use mathlib.Core.Path.{◌≡◌, refl, ap, ◌∙◌}
-use borrow.Author.Rules.{rules}
-use lib.ListN.{length, take}
+use mathlib.Core.Path.{refl, ap, ◌∙◌}
 use lib.Seq.{take_all}
 use lib.Ieee.{nan}
 use Rattle.binary64.specs.Kinds.{finite}

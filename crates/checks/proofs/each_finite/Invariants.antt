@@ -1,14 +1,9 @@
 -- `checks::each_finite` meets its contract. The loop's invariant: `passed` says whether the first k values are finite. The measure is what is left of
 use Prim.Native.Nat.{◌-◌, ◌≤◌}
-use native.Mathlib.Omega.{arith}
-use mathlib.Core.Path.{◌≡◌, refl, ap, ◌∙◌}
-use borrow.Author.Rules.{rules}
+use mathlib.Core.Path.{◌≡◌}
 use lib.ListN.{length, take}
-use lib.Seq.{take_all}
-use lib.Ieee.{nan}
 use Rattle.binary64.specs.Kinds.{finite}
 use Rattle.calls.specs.Sequences.{all}
-use Rattle.calls.proofs.Sequences.{all_take}
 use Rattle.checks.proofs.each_finite.Given as goal
 
 abbrev pub invariant-loop-k : goal.invariant-loop-k

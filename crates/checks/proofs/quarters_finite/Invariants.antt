@@ -1,16 +1,12 @@
 -- `checks::quarters_finite` meets its contract. Assumes nothing.
-use Prim.Native.Nat.{ℕ, ◌*◌, ◌+◌, ◌-◌, ◌≤◌, ◌<◌}
-use native.Mathlib.Omega.{arith}
-use mathlib.Core.Path.{◌≡◌, refl, sym, ap, ap₂, ◌∙◌}
-use mathlib.Core.Bool.{Bool, true, false, ◌&&◌, and_assoc, and-false}
+use Prim.Native.Nat.{ℕ, ◌*◌, ◌-◌, ◌≤◌}
+use mathlib.Core.Path.{◌≡◌}
+use mathlib.Core.Bool.{Bool, ◌&&◌}
 use mathlib.Core.List.{List}
-use borrow.Author.Rules.{rules}
-use lib.ListN.{length, get_or, take, drop, length-drop}
-use lib.Seq.{get_or-drop}
-use lib.Ieee.{Float, nan}
+use lib.ListN.{take, drop}
+use lib.Ieee.{Float}
 use Rattle.binary64.specs.Kinds.{finite}
 use Rattle.calls.specs.Sequences.{all}
-use Rattle.calls.proofs.Sequences.{all_take, all_parts}
 use Rattle.checks.proofs.quarters_finite.Given as goal
 
 abbrev pub side_by_side : List Float → ℕ → ℕ → Bool

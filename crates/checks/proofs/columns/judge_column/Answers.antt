@@ -3,7 +3,6 @@ use mathlib.Core.Path.{◌≡◌}
 use mathlib.Core.Bool.{true, false}
 use borrow.Author.Tests.{not-true, not-false}
 use Rattle.calls.specs.Refusals.{first_refusal, rule11, rule16, column_rules}
-use borrow.Author.Rules.{rules}
 use Rattle.checks.proofs.columns.judge_column.Goals as goal
 
 pub returns-then-is_weak : goal.returns-then-is_weak

@@ -1,7 +1,6 @@
 -- `checks::columns::refused_below` meets its contract. Assumes nothing.
 use Rattle.calls.specs.Refusals.{rule11}
 use lib.Ieee.{of_bits}
-use borrow.Author.Rules.{rules}
 use Rattle.checks.proofs.columns.refused_below.Goals as goal
 
 pub returns : goal.returns

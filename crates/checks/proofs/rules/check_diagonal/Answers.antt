@@ -4,20 +4,19 @@ use native.Mathlib.Omega.{arith}
 use mathlib.Core.Path.{◌≡◌, refl, sym, ap, ◌∙◌, subst}
 use mathlib.Core.Bool.{true, false}
 use mathlib.Core.List.{List}
-use borrow.Author.Rules.{rules}
 use borrow.Author.Tests.{not-true, not-false}
 use lib.Dec.{T}
 use lib.ListN.{length, get_or}
 use lib.Ieee.{Float, nan, of_bits}
 use Rattle.binary64.specs.Kinds.{positive, zero64}
+use Rattle.shape.specs.Places.{triangle}
 use Rattle.shape.specs.Layouts.{Entry}
-use Rattle.calls.specs.declared.Verdict.{Verdict}
+use Rattle.calls.specs.declared.Layout.{Layout}
 use Rattle.calls.specs.declared.Call.TheVariants.{Solver}
 use Rattle.calls.specs.Triangles.{place_of}
 use Rattle.calls.specs.Refusals.{success, accepted, refusal, lowest_refusal, by_blocks, rule9}
 use Rattle.calls.proofs.Judging.{lowest_next, lowest_found}
 use Rattle.calls.proofs.Rearranging.{place_bijection}
-use Rattle.calls.proofs.CheckLaws.{positive_at}
 use Rattle.checks.proofs.rules.check_diagonal.Invariants.{from}
 use Rattle.checks.proofs.rules.check_diagonal.Goals as goal
 
@@ -57,19 +56,17 @@ pub place_of-p-requires : goal.place_of-p-requires
 place_of-p-requires c =
     record { order_le_max_order = c.requires.order_le_max_order; block_nonzero = c.requires.block_nonzero; entry = on_diagonal c.args.shape.order c.loop-j.j c.loop-j-test.true }
 
-inside : (c : goal.After-place_of-p) → c.place_of-p.result < length c.args.matrix.now
-inside c =
-    let n = c.args.shape.order in
-    let j = c.loop-j.j in
-    let blocks = c.requires.block_nonzero in
-    let bijection = place_bijection c.args.layout n c.args.shape.block (λ e. blocks (subst (λ l. T (by_blocks (Solver l))) (sym e) tt)) in
-    omega (arith, c.place_of-p.ensures, bijection.below j j (on_diagonal n j c.loop-j-test.true), c.requires.matrix_len)
+inside :
+    (layout : Layout) (n b j p size : ℕ) → (T (by_blocks (Solver layout)) → 0 < b) → j < n → p ≡ place_of layout n b j j → size ≡ triangle n → p < size
+inside layout n b j p size blocks below here whole =
+    let bijection = place_bijection layout n b (λ e. blocks (subst (λ l. T (by_blocks (Solver l))) (sym e) tt)) in
+    omega (arith, bijection.below j j (on_diagonal n j below))
 
 pub offset_bounds-matrix-p : goal.offset_bounds-matrix-p
-offset_bounds-matrix-p c = omega (arith, inside c)
+offset_bounds-matrix-p c = omega (arith, inside c.args.layout c.args.shape.order c.args.shape.block c.loop-j.j c.place_of-p.result (length c.args.matrix.now) c.requires.block_nonzero c.loop-j-test.true c.place_of-p.ensures c.requires.matrix_len)
 
 pub bounds-matrix-p : goal.bounds-matrix-p
-bounds-matrix-p c = inside c.before
+bounds-matrix-p c = inside c.args.layout c.args.shape.order c.args.shape.block c.loop-j.j c.place_of-p.result (length c.args.matrix.now) c.requires.block_nonzero c.loop-j-test.true c.place_of-p.ensures c.requires.matrix_len
 
 pub returns-then-not-matrix-p : goal.returns-then-not-matrix-p
 unfolding positive of_bits

@@ -1,7 +1,6 @@
 -- `checks::rules::check_factor` meets its contract: the rules of the sizes decide, or rule 7 does. Assumes nothing.
 use mathlib.Core.Path.{sym, ◌∙◌}
 use mathlib.Core.List.{[], ◌∷◌}
-use borrow.Author.Rules.{rules}
 use lib.ListN.{length}
 use Rattle.calls.specs.declared.Call.TheVariants.{Factor}
 use Rattle.calls.specs.Refusals.{rule7}

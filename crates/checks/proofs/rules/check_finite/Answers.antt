@@ -1,5 +1,4 @@
 -- `checks::rules::check_finite` meets its contract, by cases on the kind of values. Assumes nothing.
-use borrow.Author.Rules.{rules}
 use Rattle.checks.proofs.rules.check_finite.Goals as goal
 
 pub returns-in-Matrix : goal.returns-in-Matrix

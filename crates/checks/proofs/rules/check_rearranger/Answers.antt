@@ -1,5 +1,4 @@
 -- `checks::rules::check_rearranger` meets its contract: a rearranger's checks are those of the sizes. Assumes nothing.
-use borrow.Author.Rules.{rules}
 use Rattle.calls.specs.Calls.{rearranger_checks}
 use Rattle.checks.proofs.rules.check_rearranger.Goals as goal
 

@@ -1,11 +1,10 @@
 -- `checks::rules::check_values` meets its contract. The loop's invariant: no position before p refuses; as some value is not finite, p is below the
-use Prim.Native.Nat.{ℕ, zero, suc, ◌+◌, ◌-◌, ◌≤◌, ◌<◌}
+use Prim.Native.Nat.{ℕ, zero, suc, ◌+◌, ◌≤◌, ◌<◌}
 use native.Mathlib.Omega.{arith}
 use native.Mathlib.Decide.{dec_lt}
 use mathlib.Core.Path.{◌≡◌, refl, sym, ◌∙◌}
 use mathlib.Core.Bool.{true, false}
 use mathlib.Core.List.{List}
-use borrow.Author.Rules.{rules}
 use lib.Dec.{T, eqb-suc-zero}
 use lib.ListN.{length, get_or}
 use lib.Ieee.{Float, nan}

@@ -1,5 +1,4 @@
 -- `checks::rules::needed_work` meets its contract, by cases on the call. Assumes nothing.
-use borrow.Author.Rules.{rules}
 use Rattle.checks.proofs.rules.needed_work.Goals as goal
 
 pub returns-in-Rearranger : goal.returns-in-Rearranger

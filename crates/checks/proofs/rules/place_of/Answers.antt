@@ -1,5 +1,4 @@
 -- `checks::rules::place_of` meets its contract, by cases on the layout. Assumes nothing.
-use borrow.Author.Rules.{rules}
 use Rattle.calls.specs.Triangles.{place_of}
 use Rattle.checks.proofs.rules.place_of.Goals as goal
 
