@@ -13,7 +13,6 @@ use Rattle.job_format.specs.declared.Zeros.{Zeros}
 use Rattle.job_format.specs.declared.Zeros.TheVariants.{Kept, Needless}
 use Rattle.job_format.specs.declared.Fault.{Fault}
 use Rattle.job_format.specs.declared.Rewritten.{Rewritten}
-use Rattle.job_format.specs.declared.Rewritten.TheVariants as Rewritten
 use Rattle.job_format.specs.Reading.{Parsed, fault, found, needless}
 use Rattle.job_format.specs.Format.{Contents, InBounds, read_job}
 use Rattle.text.specs.Writing.{Written, pieces}

@@ -1,7 +1,6 @@
 -- `job_format::rewrite` meets its contract. By what the sizes' reading gave. Assumes nothing.
 use native.Mathlib.Omega.{arith}
 use mathlib.Core.Path.{refl, sym, ap, ◌∙◌}
-use borrow.Author.Rules.{rules}
 use Rattle.job_format.specs.declared.Zeros.TheVariants.{Kept}
 use Rattle.job_format.specs.Format.{parsed_sizes}
 use Rattle.job_format.proofs.Formats.{sizes_bounds, job_fault, job_contents}

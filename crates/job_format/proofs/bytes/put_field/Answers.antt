@@ -1,8 +1,5 @@
 -- `job_format::bytes::put_field` meets its contract. The loop's invariant: i bytes are written, and what is left is the number without them. Assumes nothing.
-use Prim.Native.Nat.{◌-◌}
-use native.Mathlib.Omega.{arith}
-use borrow.Author.Rules.{rules}
-use Rattle.job_format.proofs.Digits.{FieldTo, field_none, field_turn, field_done}
+use Rattle.job_format.proofs.Digits.{field_none, field_turn, field_done}
 use Rattle.job_format.proofs.bytes.put_field.Goals as goal
 
 pub loop-i-init : goal.loop-i-init

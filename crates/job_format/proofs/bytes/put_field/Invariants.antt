@@ -1,8 +1,6 @@
 -- `job_format::bytes::put_field` meets its contract. The loop's invariant: i bytes are written, and what is left is the number without them. Assumes nothing.
 use Prim.Native.Nat.{◌-◌}
-use native.Mathlib.Omega.{arith}
-use borrow.Author.Rules.{rules}
-use Rattle.job_format.proofs.Digits.{FieldTo, field_none, field_turn, field_done}
+use Rattle.job_format.proofs.Digits.{FieldTo}
 use Rattle.job_format.proofs.bytes.put_field.Given as goal
 
 abbrev pub invariant-loop-i : goal.invariant-loop-i

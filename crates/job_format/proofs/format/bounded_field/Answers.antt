@@ -2,7 +2,6 @@
 use mathlib.Core.Path.{sym, ap, ◌∙◌}
 use Rattle.job_format.specs.Reading.{parsed_field}
 use Rattle.job_format.proofs.Fields.{bounded_fault, bounded_low, bounded_high, bounded_in}
-use borrow.Author.Rules.{rules}
 use Rattle.job_format.proofs.format.bounded_field.Goals as goal
 
 pub returns-then-value-low : goal.returns-then-value-low

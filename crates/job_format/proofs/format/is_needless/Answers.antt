@@ -1,6 +1,5 @@
 -- `job_format::format::is_needless` meets its contract. By the two cases of `needless`. Assumes nothing.
 use mathlib.Core.Path.{refl}
-use borrow.Author.Rules.{rules}
 use Rattle.job_format.specs.Reading.{needless}
 use Rattle.job_format.proofs.format.is_needless.Goals as goal
 

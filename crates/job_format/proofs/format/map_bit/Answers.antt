@@ -1,6 +1,5 @@
 -- `job_format::format::map_bit` meets its contract. Past the file's end a byte counts as 0, which has no bit. Assumes nothing.
 use Rattle.job_format.proofs.Formats.{bit_at, bit_past}
-use borrow.Author.Rules.{rules}
 use Rattle.job_format.proofs.format.map_bit.Goals as goal
 
 pub returns-then-i-file : goal.returns-then-i-file

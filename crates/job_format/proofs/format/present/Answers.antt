@@ -1,6 +1,5 @@
--- `job_format::format::present` meets its contract. By the two cases of `presentIn`. Assumes nothing.
+-- `job_format::format::present` meets its contract. By the two cases of `present_in`. Assumes nothing.
 use Rattle.job_format.proofs.Formats.{present_mapped, present_all}
-use borrow.Author.Rules.{rules}
 use Rattle.job_format.proofs.format.present.Goals as goal
 
 pub returns-then-mapped : goal.returns-then-mapped

@@ -1,6 +1,5 @@
 -- `job_format::format::read_contents` meets its contract. The map's fault, or what is read after it. Assumes nothing.
 use mathlib.Core.Path.{sym, ap, ◌∙◌}
-use borrow.Author.Rules.{rules}
 use Rattle.job_format.specs.Format.{parsed_as}
 use Rattle.job_format.proofs.Formats.{contents_fault_map, contents_mapped}
 use Rattle.job_format.proofs.format.read_contents.Goals as goal

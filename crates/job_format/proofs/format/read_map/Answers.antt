@@ -3,7 +3,6 @@ use native.Mathlib.Omega.{arith}
 use mathlib.Core.Path.{ap, ◌∙◌}
 use Rattle.shape.specs.Places.{triangle}
 use Rattle.job_format.proofs.Formats.{map_short, map_whole, map_unpadded, map_padded, triangle_small}
-use borrow.Author.Rules.{rules}
 use Rattle.job_format.proofs.format.read_map.Goals as goal
 
 pub overflow_add-bytes : goal.overflow_add-bytes

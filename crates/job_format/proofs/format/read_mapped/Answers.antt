@@ -3,7 +3,6 @@ use mathlib.Core.Path.{sym, ap, ◌∙◌}
 use lib.ListN.{length}
 use Rattle.job_format.specs.Format.{parsed_as}
 use Rattle.job_format.proofs.Formats.{contents_fault_matrix, contents_fault_rhs, contents_extra, contents_found}
-use borrow.Author.Rules.{rules}
 use Rattle.job_format.proofs.format.read_mapped.Goals as goal
 
 pub returns-then-at-file : goal.returns-then-at-file

@@ -2,7 +2,6 @@
 use mathlib.Core.Path.{sym, ap, ◌∙◌}
 use Rattle.job_format.specs.Reading.{parsed_field}
 use Rattle.job_format.proofs.Formats.{sizes_fault_order, sizes_fault_block, sizes_fault_count, sizes_found}
-use borrow.Author.Rules.{rules}
 use Rattle.job_format.proofs.format.read_sizes.Goals as goal
 
 pub returns-in-Fault : goal.returns-in-Fault

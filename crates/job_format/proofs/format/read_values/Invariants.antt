@@ -1,12 +1,8 @@
 -- `job_format::format::read_values` meets its contract. The loop's invariant: the first k values are in out. A fault decides for all values. Assumes nothing.
 use Prim.Native.Nat.{◌-◌}
-use native.Mathlib.Omega.{arith}
-use borrow.Author.Rules.{rules}
-use mathlib.Core.Path.{sym, ap, ◌∙◌}
-use lib.ListN.{length, length-set}
-use Rattle.job_format.specs.Reading.{parsed_field}
+use lib.ListN.{length}
 use Rattle.job_format.specs.Format.{present_in}
-use Rattle.job_format.proofs.Fields.{ReadTo, read_none, read_turn, read_fault, read_all}
+use Rattle.job_format.proofs.Fields.{ReadTo}
 use Rattle.job_format.proofs.format.read_values.Given as goal
 
 abbrev pub invariant-loop-k : goal.invariant-loop-k

@@ -2,7 +2,6 @@
 use native.Mathlib.Omega.{arith}
 use mathlib.Core.Path.{sym}
 use Rattle.job_format.proofs.Fields.{field_read, field_short}
-use borrow.Author.Rules.{rules}
 use Rattle.job_format.proofs.reader.field_at.Goals as goal
 
 pub returns-then-file-width : goal.returns-then-file-width

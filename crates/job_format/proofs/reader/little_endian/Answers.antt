@@ -1,8 +1,7 @@
 -- `job_format::reader::little_endian` meets its contract. The loop reads from the last byte down; the bytes from i on make the number. Assumes nothing.
 use native.Mathlib.Omega.{arith}
-use borrow.Author.Rules.{rules}
 use Prim.Native.Nat.{◌-◌}
-use Rattle.job_format.proofs.Numbers.{ReadDown, read_none, turn, turn_fits, read_all}
+use Rattle.job_format.proofs.Numbers.{read_none, turn, turn_fits, read_all}
 use Rattle.job_format.proofs.reader.little_endian.Goals as goal
 
 pub loop-i-init : goal.loop-i-init
@@ -19,13 +18,13 @@ overflow_mul-value c =
 
 pub overflow_add-value : goal.overflow_add-value
 overflow_add-value c =
-    let byte = c.shared_slice_known-in-loop-i-1.given (c.loop-i.i - 1) in
+    let byte = c.type_inv.part (c.loop-i.i - 1) in
     let more = c.loop-i-test.true in
     record { fits = turn_fits c.args.part.now c.loop-i.value c.loop-i.i c.requires more c.loop-i.invariant c.wide.result (omega arith) }
 
 pub loop-i-preserved : goal.loop-i-preserved
 loop-i-preserved c =
-    let byte = c.shared_slice_known-in-loop-i-1.given (c.loop-i.i - 1) in
+    let byte = c.type_inv.part (c.loop-i.i - 1) in
     let more = c.loop-i-test.true in
     turn c.args.part.now c.loop-i.value c.loop-i.i c.requires more c.loop-i.invariant c.wide.result (omega arith) c.wide.ensures
 

@@ -1,8 +1,5 @@
 -- `job_format::reader::little_endian` meets its contract. The loop reads from the last byte down; the bytes from i on make the number. Assumes nothing.
-use native.Mathlib.Omega.{arith}
-use borrow.Author.Rules.{rules}
-use Prim.Native.Nat.{◌-◌}
-use Rattle.job_format.proofs.Numbers.{ReadDown, read_none, turn, turn_fits, read_all}
+use Rattle.job_format.proofs.Numbers.{ReadDown}
 use Rattle.job_format.proofs.reader.little_endian.Given as goal
 
 abbrev pub invariant-loop-i : goal.invariant-loop-i

@@ -1,6 +1,5 @@
 -- `job_format::writer::bit` meets its contract. By whether the bit stands. Assumes nothing.
 use mathlib.Core.Path.{refl, sym, ◌∙◌}
-use borrow.Author.Rules.{rules}
 use Rattle.job_format.proofs.writer.bit.Goals as goal
 
 pub returns-then-stands : goal.returns-then-stands

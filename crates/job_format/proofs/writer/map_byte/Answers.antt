@@ -2,9 +2,8 @@
 use Prim.Native.Nat.{◌+◌, ◌-◌}
 use native.Mathlib.Omega.{arith}
 use mathlib.Core.Path.{refl}
-use borrow.Author.Rules.{rules}
 use Rattle.job_format.specs.Rewriting.{stands}
-use Rattle.job_format.proofs.Digits.{bit, BitsDown, down_none, down_turn, down_fits, down_all}
+use Rattle.job_format.proofs.Digits.{bit, down_none, down_turn, down_fits, down_all}
 use Rattle.job_format.proofs.writer.map_byte.Goals as goal
 
 pub loop-k-init : goal.loop-k-init

@@ -1,10 +1,6 @@
 -- `job_format::writer::map_byte` meets its contract. The loop goes from the highest bit down; the bits from k on are in the byte. Assumes nothing.
-use Prim.Native.Nat.{◌+◌, ◌-◌}
-use native.Mathlib.Omega.{arith}
-use mathlib.Core.Path.{refl}
-use borrow.Author.Rules.{rules}
 use Rattle.job_format.specs.Rewriting.{stands}
-use Rattle.job_format.proofs.Digits.{bit, BitsDown, down_none, down_turn, down_fits, down_all}
+use Rattle.job_format.proofs.Digits.{BitsDown}
 use Rattle.job_format.proofs.writer.map_byte.Given as goal
 
 abbrev pub invariant-loop-k : goal.invariant-loop-k

@@ -1,6 +1,5 @@
 -- `job_format::writer::put_job` meets its contract. The sizes, the map, the entries and the right-hand sides one after another, which have room. Assumes nothing.
 use native.Mathlib.Omega.{arith}
-use borrow.Author.Rules.{rules}
 use Rattle.job_format.specs.declared.Zeros.TheVariants.{Needless}
 use Rattle.job_format.specs.Rewriting.{job_bytes}
 use Rattle.text.proofs.Texts.{then}

@@ -1,10 +1,6 @@
 -- `job_format::writer::put_map` meets its contract. The loop's invariant: the first i bytes of the map are written. Assumes nothing.
-use Prim.Native.Nat.{◌+◌, ◌*◌, ◌-◌, ◌≤◌}
 use native.Mathlib.Omega.{arith}
-use mathlib.Core.Path.{◌≡◌, refl, ◌∙◌}
-use lib.ListN.{length}
-use Rattle.calls.specs.Sequences.{tabulate}
-use Rattle.text.specs.Writing.{Written}
+use mathlib.Core.Path.{refl, ◌∙◌}
 use Rattle.text.proofs.Texts.{as_text, tabulated_none, tabulated_turn}
 use Rattle.job_format.proofs.JobBytes.{map_byte, map_all}
 use Rattle.job_format.proofs.writer.put_map.Goals as goal

@@ -1,6 +1,5 @@
 -- `job_format::writer::put_sizes` meets its contract. Three numbers one after another. Assumes nothing.
 use native.Mathlib.Omega.{arith}
-use borrow.Author.Rules.{rules}
 use lib.ListN.{length-append}
 use Rattle.job_format.specs.Rewriting.{bytes_of, sizes_bytes}
 use Rattle.text.proofs.Texts.{then}

@@ -1,6 +1,5 @@
 -- `job_format::writer::put_value` meets its contract. A needless zero has no bytes. Assumes nothing.
 use mathlib.Core.Path.{sym, ◌∙◌}
-use borrow.Author.Rules.{rules}
 use Rattle.text.proofs.Texts.{as_text, nothing_written}
 use Rattle.job_format.proofs.JobBytes.{value_dropped, value_whole}
 use Rattle.job_format.proofs.writer.put_value.Goals as goal

@@ -1,12 +1,10 @@
 -- `job_format::writer::put_values` meets its contract. The loop's invariant: the bytes of the first k values are written. Assumes nothing.
-use Prim.Native.Nat.{◌-◌, ◌≤◌}
 use native.Mathlib.Omega.{arith}
-use mathlib.Core.Path.{◌≡◌, refl, ◌∙◌}
-use lib.ListN.{length, get_or}
-use Rattle.text.specs.Writing.{Written}
+use mathlib.Core.Path.{refl, ◌∙◌}
+use lib.ListN.{get_or}
 use Rattle.job_format.specs.Rewriting.{value_bytes}
 use Rattle.text.proofs.Texts.{as_text, pieces_none, pieces_turn}
-use Rattle.job_format.proofs.JobBytes.{values_to, length_values_to, values_all}
+use Rattle.job_format.proofs.JobBytes.{length_values_to, values_all}
 use Rattle.job_format.proofs.writer.put_values.Goals as goal
 
 pub loop-k-init : goal.loop-k-init

@@ -1,6 +1,5 @@
 -- `job_format::writer::stands` meets its contract. Past the last entry a pattern counts as 0. Assumes nothing.
 use mathlib.Core.Path.{refl}
-use borrow.Author.Rules.{rules}
 use lib.ListN.{get_or-eq_default}
 use Rattle.job_format.specs.Rewriting.{stands}
 use Rattle.job_format.proofs.writer.stands.Goals as goal
