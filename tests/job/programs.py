@@ -1,4 +1,4 @@
-"""A program and its launcher: held to another implementation on whole jobs and on jobs in pieces, and to what is told of failing input
+"""A program that reads one job, and its launcher: held to another implementation on whole jobs and on jobs in pieces, and to what is told of failing input
 and output."""
 import contextlib
 import os
@@ -71,17 +71,24 @@ class Program:
         fine = got.returncode == status and (got.stderr == err if err is not None else got.stderr.count(b"\n") == 1) and not got.stdout
         self.count(f"{name}: status {got.returncode}, {got.stderr}, {'fine' if fine else 'not so'}", fine)
 
-    def failing_input(self):
-        """Input that cannot be read, and arguments that are not one FILE."""
-        unread = f"{self.name}: the job could not be read\n".encode()
+    def failing_streams(self):
+        """Input that cannot be read, output that cannot be written."""
+        unread, unwritten = f"{self.name}: the job could not be read\n".encode(), f"{self.name}: the {self.product} could not be written\n".encode()
         job, folder = os.path.join(examples, "sample.job"), os.open(top, os.O_RDONLY)
+        reader, nobody = os.pipe()
+        os.close(reader)
         for command, status in (([self.path], 0), ([self.launcher], 1)):  # the program has no status of its own
-            self.ended(f"{os.path.basename(command[0])}, a folder as standard input", command, status, unread, stdin=folder, stdout=subprocess.PIPE)
+            name = os.path.basename(command[0])
+            self.ended(f"{name}, a folder as standard input", command, status, unread, stdin=folder, stdout=subprocess.PIPE)
+            with open(job, "rb") as file, open("/dev/full", "wb") as full:
+                self.ended(f"{name}, a full device as standard output", command, status, unwritten, stdin=file, stdout=full)
         name = os.path.basename(self.launcher)
         self.ended(f"{name}, a folder as FILE", [self.launcher, top], 1, unread, stdout=subprocess.PIPE)
         self.ended(f"{name}, no such FILE", [self.launcher, os.path.join(examples, "none.job")], 1, None, stdout=subprocess.PIPE)
         self.ended(f"{name}, two FILEs", [self.launcher, job, job], 1, f"{name}: one FILE, or standard input\n".encode(), stdout=subprocess.PIPE)
         self.ended(f"{name}, standard input closed", ["bash", "-c", '"$0" <&-', self.launcher], 1, None, stdout=subprocess.PIPE)
+        self.ended(f"{name}, standard output closed", ["bash", "-c", '"$0" "$1" >&-', self.launcher, job], 1, None)
+        self.ended(f"{name}, the program ended by a signal (SIGPIPE)", [self.launcher, job], 128 + 13, b"", stdout=nobody)
 
     def failing_output(self):
         """Output that cannot be written, with a job on standard input."""

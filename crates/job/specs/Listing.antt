@@ -5,12 +5,11 @@ use Rattle.std.specs.Float.Ieee.{of_bits, to_bits}
 use Rattle.binary64.specs.Kinds.{zero64}
 use Rattle.shape.specs.Places.{block_work}
 use Rattle.calls.specs.declared.Verdict.{Verdict}
-use Rattle.calls.specs.Sequences.{tabulate}
+use Rattle.calls.specs.Sequences.{iterate, tabulate}
 use Rattle.calls.specs.Refusals.{accepted, rule7, rule8, first_refusal}
 use Rattle.calls.specs.Calls.{answer}
 use Rattle.calls.specs.Pipelines.{Ended, blocked_pipeline}
-use Rattle.text.specs.Writing.{pieces}
-use Rattle.text.specs.Decimals.{space, line_feed, decimal}
+pub use Rattle.text.specs.Decimals.{space, line_feed, digits, decimal}
 use Rattle.job_format.specs.declared.Fault.{Fault}
 use Rattle.job_format.specs.declared.Sizes.{Sizes}
 use Rattle.job_format.specs.declared.Zeros.TheVariants.{Needless}
@@ -52,7 +51,7 @@ unfoldable pub value_line : List ℕ → Float → List ℕ
 value_line head v = head ++ hexadecimal v ++ (line_feed ∷ [])
 
 unfoldable pub value_lines : List ℕ → List Float → List ℕ
-value_lines head vs = pieces (λ k. value_line head (get_or vs k nan)) (length vs)
+value_lines head vs = iterate (λ k lines. lines ++ value_line head (get_or vs k nan)) (length vs) []
 
 -- `END` code and place in decimal
 unfoldable pub end_line : ℕ → ℕ → List ℕ

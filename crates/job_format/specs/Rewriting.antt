@@ -2,7 +2,7 @@
 use Rattle.std.specs.Prelude.{ℕ, zero, suc, ◌+◌, ◌*◌, ◌/◌, ◌%◌, ◌^◌, ◌<◌, Bool, cond, not, List, [], ◌∷◌, ◌++◌, ◌⊎◌, ◌≡◌, T, eqb, length, get_or}
 use Rattle.std.proofs.Math.Pow.{are_bytes}
 use Rattle.shape.specs.Places.{triangle}
-use Rattle.calls.specs.Sequences.{tabulate}
+use Rattle.calls.specs.Sequences.{iterate, tabulate}
 use Rattle.job_format.specs.declared.Fault.{Fault}
 use Rattle.job_format.specs.declared.Sizes.{Sizes}
 use Rattle.job_format.specs.declared.Zeros.{Zeros}
@@ -11,7 +11,7 @@ use Rattle.job_format.specs.declared.Rewritten.{Rewritten}
 use Rattle.job_format.specs.declared.Rewritten.TheVariants as Rewritten
 use Rattle.job_format.specs.Reading.{Parsed, fault, found, and_then, needless, needless_zero}
 use Rattle.job_format.specs.Format.{Contents, InBounds, read_job}
-use Rattle.text.specs.Writing.{overwrite, pieces}
+use Rattle.text.specs.Writing.{overwrite}
 
 -- ---- a job from its contents
 
@@ -40,7 +40,7 @@ unfoldable pub value_bytes : Zeros → ℕ → List ℕ
 value_bytes zeros bits = cond (needless zeros bits) [] (bytes_of 8 bits)
 
 unfoldable pub values_bytes : Zeros → List ℕ → List ℕ
-values_bytes zeros values = pieces (λ k. value_bytes zeros (get_or values k 0)) (length values)
+values_bytes zeros values = iterate (λ k bytes. bytes ++ value_bytes zeros (get_or values k 0)) (length values) []
 
 unfoldable pub job_bytes : Contents → List ℕ
 job_bytes job = sizes_bytes job.sizes ++ map_of job.matrix ++ values_bytes Needless job.matrix ++ values_bytes Kept job.rhs

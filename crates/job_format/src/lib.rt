@@ -14,6 +14,7 @@ mod writer;
 
 pub use format::{MAX_ORDER, MAX_RHS, read_contents, read_sizes};
 use shape::Shape;
+pub use text::{put_byte, put_text};
 use writer::put_job;
 
 // The codes: no job, or not one job; a standing bit over +0.
