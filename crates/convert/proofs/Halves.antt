@@ -113,6 +113,12 @@ module _ (form n left right : ℕ) (rows : ByRows form n left right) where
       let column : left + (j - left) ≡ j = omega arith in
       rw column at (rows i left k (j - left) (omega arith) (omega arith) e)
 
+  -- of row i itself
+  pub row_from_left : (i j : ℕ) → left ≤ j → j < right → Entry n i j → rfp_place form n i j ≡ rfp_place form n i left + (j - left)
+  row_from_left i j low high e =
+      let at = place_from_left i j 0 low high (omega (arith, e.lower, e.inside)) in
+      omega (arith, rw (add-zero i) at at)
+
 -- down column j, in source and target alike
 pub down_column :
     (conversion : Conversion) (form n left right j k : ℕ) → ByColumns form n left right → left ≤ j → j < right → j < n →

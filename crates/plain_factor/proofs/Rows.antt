@@ -42,6 +42,12 @@ pub row_place_le :
 row_place_le {n} i k s h inside =
     (omega (arith, row_place_lt n i k h inside, s.size), omega (arith, row_place_lt n i k h inside, triangle_le n s.order))
 
+-- the same from where column k starts
+pub row_from_le :
+    {n j : ℕ} {m : List Float} (i k start : ℕ) → Column n j m → start ≡ packed_place n 0 k → k < n → i < n →
+    (start + i < length m) × (start + i < 8002000)
+row_from_le i k start s e h inside = rw e (row_place_le i k s h inside)
+
 -- column k + c + 1 starts as far past column k + c as that has rows below its diagonal
 pub start_next : (n k c start : ℕ) → k + c < n → start ≡ packed_place n 0 (k + c) → start + (n - k - c - 1) ≡ packed_place n 0 (k + (c + 1))
 start_next n k c start h e =

@@ -5,7 +5,6 @@ use Rattle.shape.proofs.Rfp.{rfp_columns_half}
 use Rattle.kernels.proofs.Transfers.{join_columns}
 use Rattle.convert.proofs.Halves.{by_columns_0, by_rows_0, by_rows_1, by_columns_1}
 use Rattle.convert.proofs.Results.{moved_all}
-use borrow.Author.Rules.{rules}
 use Rattle.convert.proofs.move_halves.Goals as goal
 
 pub copy_columns-requires : goal.copy_columns-requires

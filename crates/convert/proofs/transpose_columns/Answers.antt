@@ -1,5 +1,4 @@
 -- `convert::transpose_columns` meets its contract: each arm is the conversion that the match has told. Assumes nothing.
-use borrow.Author.Rules.{rules}
 use Rattle.convert.proofs.transpose_columns.Goals as goal
 
 pub returns-in-PackedToRfp : goal.returns-in-PackedToRfp

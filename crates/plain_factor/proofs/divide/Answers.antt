@@ -1,12 +1,9 @@
 -- `plain_factor::divide` meets its contract. The loop's invariant: the rows before i are divided. The measure is what is left of the rows. Assumes nothing.
-use Prim.Native.Nat.{◌+◌, ◌-◌, ◌≤◌}
 use native.Mathlib.Nat.{sub_self}
 use native.Mathlib.Omega.{arith}
-use borrow.Author.Rules.{rules}
 use mathlib.Core.Path.{◌≡◌, ap}
 use lib.ListN.{length, get_or}
 use lib.Ieee.{nan, binary64, div}
-use Rattle.kernels.specs.Kernels.{Filled}
 use Rattle.kernels.proofs.Parts.{filled_none, filled_at}
 use Rattle.plain_factor.proofs.divide.Goals as goal
 

@@ -2,7 +2,6 @@
 use native.Mathlib.Omega.{arith}
 use lib.ListN.{length-set}
 use Rattle.plain_factor.proofs.Verdicts.{rows_divided}
-use borrow.Author.Rules.{rules}
 use Rattle.plain_factor.proofs.divide_rows.Goals as goal
 
 pub slice_bounds-all_finite-count : goal.slice_bounds-all_finite-count

@@ -2,7 +2,6 @@
 use mathlib.Core.Path.{◌∙◌, ap}
 use lib.ListN.{replicate}
 use Rattle.binary64.specs.Kinds.{zero64}
-use borrow.Author.Rules.{rules}
 use Rattle.plain_factor.proofs.factor_cleared.Goals as goal
 
 pub returns : goal.returns

@@ -3,7 +3,6 @@ use Prim.Native.Nat.{◌+◌}
 use native.Mathlib.Omega.{arith}
 use mathlib.Core.Path.{◌∙◌}
 use Rattle.plain_factor.proofs.Verdicts.{waiting_kept}
-use borrow.Author.Rules.{rules}
 use Rattle.plain_factor.proofs.factor_column.Goals as goal
 
 pub finish_column-requires : goal.finish_column-requires
@@ -15,7 +14,7 @@ returns c =
     let a = c.args in record {
       judged = c.finish_column.ensures.judged;
       waiting_2 = λ r h.
-          c.finish_column.ensures.1 r (omega arith) (omega arith)
+          c.finish_column.ensures.same r (omega arith) (omega arith)
           ∙ c.form_column.ensures.waiting r h
           ∙ waiting_kept a.n a.j a.matrix.now c.finish_column.new.matrix c.finish_column.result c.requires.column.column c.finish_column.ensures.judged (a.next + r)
           (omega arith) h;

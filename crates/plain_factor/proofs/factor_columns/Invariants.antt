@@ -1,15 +1,12 @@
 -- `plain_factor::factor_columns` meets its contract. The loop's invariant: the columns before j are written and judged, and rows of column j wait. The measure is
-use Prim.Native.Nat.{◌+◌, ◌-◌, ◌≤◌}
-use native.Mathlib.Omega.{arith}
-use mathlib.Core.Path.{◌≡◌, refl, sym, ◌∙◌}
-use borrow.Author.Rules.{rules}
+-- what is left of the columns. Assumes nothing.
+use Prim.Native.Nat.{◌-◌, ◌≤◌}
+use mathlib.Core.Path.{◌≡◌}
 use lib.ListN.{length}
-use Rattle.calls.specs.Sequences.{every}
 use Rattle.calls.specs.Refusals.{success, lowest_refusal}
 use Rattle.calls.specs.Judgements.{judged_to}
-use Rattle.calls.proofs.Judging.{refused_of, accepted_of}
 use Rattle.plain_factor.specs.Steps.{Room, Waiting}
-use Rattle.plain_factor.proofs.Prefixes.{prefix_of, rule_of, exact_of, prefix_none, column_is, columns_refused, columns_continued, judged_all}
+use Rattle.plain_factor.proofs.Prefixes.{prefix_of, rule_of, exact_of}
 use Rattle.plain_factor.proofs.factor_columns.Given as goal
 
 abbrev pub invariant-loop-j : goal.invariant-loop-j

@@ -1,7 +1,6 @@
 -- `plain_factor::form_column` meets its contract. Assumes nothing.
 use native.Mathlib.Omega.{arith}
 use mathlib.Core.Path.{◌≡◌}
-use borrow.Author.Rules.{rules}
 use Rattle.plain_factor.proofs.form_column.Goals as goal
 
 pub returns-then-top-n : goal.returns-then-top-n

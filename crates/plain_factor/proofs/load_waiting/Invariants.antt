@@ -1,13 +1,8 @@
 -- `plain_factor::load_waiting` meets its contract. The loop's invariant: the rows before i are read. The measure is what is left of the rows. Assumes nothing.
 use Prim.Native.Nat.{◌+◌, ◌-◌, ◌≤◌}
-use native.Mathlib.Nat.{sub_self}
-use native.Mathlib.Omega.{arith}
-use mathlib.Core.Path.{◌≡◌, ap, ◌∙◌}
 use lib.ListN.{get_or}
 use lib.Ieee.{nan}
-use Rattle.kernels.proofs.Loops.{Stored, stored_none, stored_next}
-use Rattle.plain_factor.proofs.Rows.{row_place_le, reduced_none}
-use borrow.Author.Rules.{rules}
+use Rattle.kernels.proofs.Loops.{Stored}
 use Rattle.plain_factor.proofs.load_waiting.Given as goal
 
 abbrev pub invariant-loop-i : goal.invariant-loop-i

@@ -3,7 +3,6 @@ use Prim.Native.Nat.{◌+◌, ◌-◌, ◌%◌}
 use native.Mathlib.Omega.{arith}
 use mathlib.Core.Path.{◌≡◌}
 use Rattle.plain_factor.proofs.Rows.{rows_append, group_reduced}
-use borrow.Author.Rules.{rules}
 use Rattle.plain_factor.proofs.reduce_group.Goals as goal
 
 pub returns-then-j-rest : goal.returns-then-j-rest

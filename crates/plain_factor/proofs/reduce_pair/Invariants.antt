@@ -1,10 +1,8 @@
 -- `plain_factor::reduce_pair` meets its contract. The loop's invariant: the rows of both are reduced by k columns. The measure is what is left of the columns. Assumes nothing.
 use Prim.Native.Nat.{◌+◌, ◌-◌, ◌≤◌}
-use native.Mathlib.Omega.{arith}
-use mathlib.Core.Path.{◌≡◌, refl, sym, ◌∙◌}
+use mathlib.Core.Path.{◌≡◌}
 use lib.ListN.{length}
 use Rattle.plain_factor.specs.Steps.{Reduced, Waiting, Same}
-use Rattle.plain_factor.proofs.Rows.{reduced_more}
 use Rattle.plain_factor.proofs.reduce_pair.Given as goal
 
 abbrev pub invariant-loop-k : goal.invariant-loop-k

@@ -1,10 +1,7 @@
 -- `plain_factor::reduce_pair_tiles` meets its contract. The loop's invariant: the rows before i are reduced, and whole tiles are left. The measure is what is left of the rows. Assumes nothing.
-use Prim.Native.Nat.{◌-◌, ◌%◌, ◌≤◌}
 use native.Mathlib.Nat.{sub_self}
 use native.Mathlib.Omega.{arith}
 use mathlib.Core.Path.{◌≡◌, sym, ◌∙◌}
-use lib.ListN.{length}
-use Rattle.plain_factor.specs.Steps.{PairReduced}
 use Rattle.plain_factor.proofs.Rows.{pair_none, pair_next}
 use Rattle.plain_factor.proofs.reduce_pair_tiles.Goals as goal
 
@@ -23,10 +20,11 @@ reduce_part-requires c =
     record { column = c.requires.column; group = c.requires.group; i_bound = (omega arith, omega arith) }
 
 pub reduce_part-requires-in-loop-i : goal.reduce_part-requires-in-loop-i
-reduce_part-requires-in-loop-i c = (
-  record { order = c.requires.column.order; column = omega arith; size = c.requires.column.size },
-  (record { high = omega arith; start = c.requires.group.start }, (omega arith, omega arith)),
-)
+reduce_part-requires-in-loop-i c = record {
+  column = record { order = c.requires.column.order; column = omega arith; size = c.requires.column.size };
+  group = record { high = omega arith; start = c.requires.group.start };
+  i_bound = (omega arith, omega arith);
+}
 
 pub loop-i-preserved : goal.loop-i-preserved
 loop-i-preserved c =

@@ -1,11 +1,8 @@
 -- `plain_factor::reduce_pair_tiles` meets its contract. The loop's invariant: the rows before i are reduced, and whole tiles are left. The measure is what is left of the rows. Assumes nothing.
 use Prim.Native.Nat.{◌-◌, ◌%◌, ◌≤◌}
-use native.Mathlib.Nat.{sub_self}
-use native.Mathlib.Omega.{arith}
-use mathlib.Core.Path.{◌≡◌, sym, ◌∙◌}
+use mathlib.Core.Path.{◌≡◌}
 use lib.ListN.{length}
 use Rattle.plain_factor.specs.Steps.{PairReduced}
-use Rattle.plain_factor.proofs.Rows.{pair_none, pair_next}
 use Rattle.plain_factor.proofs.reduce_pair_tiles.Given as goal
 
 abbrev pub invariant-loop-i : goal.invariant-loop-i

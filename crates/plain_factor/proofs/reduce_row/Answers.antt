@@ -1,12 +1,10 @@
 -- `plain_factor::reduce_row` meets its contract. The loop's invariant: the row is less its products in c columns. The measure is what is left of the group. Assumes nothing.
-use Prim.Native.Nat.{ℕ, ◌+◌, ◌-◌, ◌≤◌, ◌<◌}
+use Prim.Native.Nat.{◌+◌}
 use native.Mathlib.Nat.{add-zero}
 use native.Mathlib.Omega.{arith}
 use mathlib.Core.Path.{◌≡◌, ap, ◌∙◌}
-use lib.ListN.{length}
-use Rattle.shape.specs.Places.{packed_place}
 use Rattle.plain_factor.specs.Steps.{less_products}
-use Rattle.plain_factor.proofs.Rows.{row_place_le, start_next, less_none, less_next}
+use Rattle.plain_factor.proofs.Rows.{row_place_le, row_from_le, start_next, less_none, less_next}
 use Rattle.plain_factor.proofs.reduce_row.Goals as goal
 
 pub loop-c-init : goal.loop-c-init
@@ -15,30 +13,23 @@ loop-c-init c =
     (omega arith, rw add-zero c.requires.group.start, less_none a.n a.matrix.now a.j a.k a.i a.row)
 
 -- in a turn a row of column k + c stands in the memory, at a place that fits
-inside : (c : goal.In-loop-c) (i : ℕ)
-    → i < c.args.n
-    → let p = c.loop-c.start + i in
-    (p < length c.args.matrix.now) × (p < 8002000)
-inside c i h =
-    rw c.loop-c.invariant.1 (row_place_le i (c.args.k + c.loop-c.c) c.requires.column (omega arith) h)
-
 pub overflow_add-rest : goal.overflow_add-rest
-overflow_add-rest c = omega (arith, inside c c.args.i (omega arith))
+overflow_add-rest c = omega (arith, row_from_le c.args.i (c.args.k + c.loop-c.c) c.loop-c.start c.requires.column c.loop-c.invariant.1 (omega arith) (omega arith))
 
 pub offset_bounds-matrix-start : goal.offset_bounds-matrix-start
-offset_bounds-matrix-start c = omega (arith, inside c c.args.i (omega arith))
+offset_bounds-matrix-start c = omega (arith, row_from_le c.args.i (c.args.k + c.loop-c.c) c.loop-c.start c.requires.column c.loop-c.invariant.1 (omega arith) (omega arith))
 
 pub bounds-matrix-start : goal.bounds-matrix-start
-bounds-matrix-start c = omega (arith, inside c.before c.args.i (omega arith))
+bounds-matrix-start c = omega (arith, row_from_le c.args.i (c.args.k + c.loop-c.c) c.loop-c.start c.requires.column c.loop-c.invariant.1 (omega arith) (omega arith))
 
 pub overflow_add-rest-in-loop-c : goal.overflow_add-rest-in-loop-c
-overflow_add-rest-in-loop-c c = omega (arith, inside c.before c.args.j (omega arith))
+overflow_add-rest-in-loop-c c = omega (arith, row_from_le c.args.j (c.args.k + c.loop-c.c) c.loop-c.start c.requires.column c.loop-c.invariant.1 (omega arith) (omega arith))
 
 pub offset_bounds-matrix-start-in-loop-c : goal.offset_bounds-matrix-start-in-loop-c
-offset_bounds-matrix-start-in-loop-c c = omega (arith, inside c.before c.args.j (omega arith))
+offset_bounds-matrix-start-in-loop-c c = omega (arith, row_from_le c.args.j (c.args.k + c.loop-c.c) c.loop-c.start c.requires.column c.loop-c.invariant.1 (omega arith) (omega arith))
 
 pub bounds-matrix-start-in-loop-c : goal.bounds-matrix-start-in-loop-c
-bounds-matrix-start-in-loop-c c = omega (arith, inside c.before.before c.args.j (omega arith))
+bounds-matrix-start-in-loop-c c = omega (arith, row_from_le c.args.j (c.args.k + c.loop-c.c) c.loop-c.start c.requires.column c.loop-c.invariant.1 (omega arith) (omega arith))
 
 pub overflow_add-start : goal.overflow_add-start
 overflow_add-start c =

@@ -1,13 +1,12 @@
 -- `plain_factor::reduce_tile` meets its contract. The loop's invariant: the rows are less their products in c columns. The measure is what is left of the group. Assumes nothing.
-use Prim.Native.Nat.{ℕ, ◌+◌, ◌-◌, ◌≤◌, ◌<◌}
+use Prim.Native.Nat.{◌+◌}
 use native.Mathlib.Nat.{add-zero}
 use native.Mathlib.Omega.{arith}
 use mathlib.Core.Path.{◌≡◌, ap, ◌∙◌}
-use lib.ListN.{length, get_or}
+use lib.ListN.{get_or}
 use lib.Ieee.{nan}
-use Rattle.shape.specs.Places.{packed_place}
-use Rattle.plain_factor.specs.Steps.{less_products, TileReduced}
-use Rattle.plain_factor.proofs.Rows.{row_place_le, start_next, less_none, tile_next}
+use Rattle.plain_factor.specs.Steps.{less_products}
+use Rattle.plain_factor.proofs.Rows.{row_place_le, row_from_le, start_next, less_none, tile_next}
 use Rattle.plain_factor.proofs.reduce_tile.Goals as goal
 
 pub loop-c-init : goal.loop-c-init
@@ -16,27 +15,20 @@ loop-c-init c =
     (omega arith, rw add-zero c.requires.group.start, λ r h. less_none a.n a.matrix.now a.j a.k (a.i + r) (get_or a.tile r nan))
 
 -- in a turn a row of column k + c stands in the memory, at a place that fits
-inside : (c : goal.In-loop-c) (i : ℕ)
-    → i < c.args.n
-    → let p = c.loop-c.start + i in
-    (p < length c.args.matrix.now) × (p < 8002000)
-inside c i h =
-    rw c.loop-c.invariant.1 (row_place_le i (c.args.k + c.loop-c.c) c.requires.column (omega arith) h)
-
 pub overflow_add-start : goal.overflow_add-start
-overflow_add-start c = omega (arith, inside c c.args.i (omega arith))
+overflow_add-start c = omega (arith, row_from_le c.args.i (c.args.k + c.loop-c.c) c.loop-c.start c.requires.column c.loop-c.invariant.1 (omega arith) (omega arith))
 
 pub overflow_add-start-in-loop-c : goal.overflow_add-start-in-loop-c
-overflow_add-start-in-loop-c c = omega (arith, inside c c.args.j (omega arith))
+overflow_add-start-in-loop-c c = omega (arith, row_from_le c.args.j (c.args.k + c.loop-c.c) c.loop-c.start c.requires.column c.loop-c.invariant.1 (omega arith) (omega arith))
 
 pub offset_bounds-matrix-start : goal.offset_bounds-matrix-start
-offset_bounds-matrix-start c = omega (arith, inside c c.args.j (omega arith))
+offset_bounds-matrix-start c = omega (arith, row_from_le c.args.j (c.args.k + c.loop-c.c) c.loop-c.start c.requires.column c.loop-c.invariant.1 (omega arith) (omega arith))
 
 pub bounds-matrix-start : goal.bounds-matrix-start
-bounds-matrix-start c = omega (arith, inside c.before c.args.j (omega arith))
+bounds-matrix-start c = omega (arith, row_from_le c.args.j (c.args.k + c.loop-c.c) c.loop-c.start c.requires.column c.loop-c.invariant.1 (omega arith) (omega arith))
 
 pub step16-next-requires : goal.step16-next-requires
-step16-next-requires c = omega (arith, inside c.before (c.args.i + 15) (omega arith))
+step16-next-requires c = omega (arith, row_from_le (c.args.i + 15) (c.args.k + c.loop-c.c) c.loop-c.start c.requires.column c.loop-c.invariant.1 (omega arith) (omega arith))
 
 pub overflow_add-start-in-loop-c-2 : goal.overflow_add-start-in-loop-c-2
 overflow_add-start-in-loop-c-2 c =

@@ -1,13 +1,8 @@
 -- `plain_factor::reduce_tile` meets its contract. The loop's invariant: the rows are less their products in c columns. The measure is what is left of the group. Assumes nothing.
-use Prim.Native.Nat.{ℕ, ◌+◌, ◌-◌, ◌≤◌, ◌<◌}
-use native.Mathlib.Nat.{add-zero}
-use native.Mathlib.Omega.{arith}
-use mathlib.Core.Path.{◌≡◌, ap, ◌∙◌}
-use lib.ListN.{length, get_or}
-use lib.Ieee.{nan}
+use Prim.Native.Nat.{◌+◌, ◌-◌, ◌≤◌}
+use mathlib.Core.Path.{◌≡◌}
 use Rattle.shape.specs.Places.{packed_place}
-use Rattle.plain_factor.specs.Steps.{less_products, TileReduced}
-use Rattle.plain_factor.proofs.Rows.{row_place_le, start_next, less_none, tile_next}
+use Rattle.plain_factor.specs.Steps.{TileReduced}
 use Rattle.plain_factor.proofs.reduce_tile.Given as goal
 
 abbrev pub invariant-loop-c : goal.invariant-loop-c

@@ -1,11 +1,9 @@
 -- `plain_factor::reduce_tiles` meets its contract. The loop's invariant: the rows before i are reduced, and whole tiles are left. The measure is what is left of the rows. Assumes nothing.
-use Prim.Native.Nat.{◌-◌, ◌%◌, ◌≤◌}
 use native.Mathlib.Nat.{sub_self}
 use native.Mathlib.Omega.{arith}
 use mathlib.Core.Path.{◌≡◌}
 use lib.Ieee.{nan}
 use Rattle.kernels.proofs.Parts.{filled_none}
-use Rattle.plain_factor.specs.Steps.{RowsReduced}
 use Rattle.plain_factor.proofs.Rows.{rows_append}
 use Rattle.plain_factor.proofs.reduce_tiles.Goals as goal
 

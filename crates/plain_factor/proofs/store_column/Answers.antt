@@ -1,7 +1,5 @@
 -- `plain_factor::store_column` meets its contract. The loop's invariant: the rows before i are written. The measure is what is left of the rows. Assumes nothing.
-use Prim.Native.Nat.{◌-◌, ◌≤◌}
 use native.Mathlib.Omega.{arith}
-use borrow.Author.Rules.{rules}
 use mathlib.Core.Path.{◌≡◌, ap, ◌∙◌}
 use lib.ListN.{length}
 use Rattle.calls.proofs.Writes.{length_writes}

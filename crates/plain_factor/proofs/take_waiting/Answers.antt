@@ -1,13 +1,12 @@
 -- `plain_factor::take_waiting` meets its contract. The loop's invariant: the rows before i are in place, and nothing else is changed. The measure is what is left of the rows. Assumes nothing.
-use Prim.Native.Nat.{ℕ, ◌+◌, ◌-◌, ◌≤◌, ◌<◌}
+use Prim.Native.Nat.{ℕ, ◌+◌, ◌-◌}
 use native.Mathlib.Nat.{sub_self}
 use native.Mathlib.Omega.{arith}
 use mathlib.Core.Path.{ap, ◌∙◌}
-use lib.ListN.{length, get_or}
+use lib.ListN.{get_or}
 use lib.Ieee.{Float, nan, binary64, mul, sub}
-use Rattle.kernels.specs.Kernels.{Filled}
 use Rattle.kernels.proofs.Parts.{filled_none, filled_at, filled_here}
-use Rattle.plain_factor.proofs.Rows.{row_place_le, waiting_next}
+use Rattle.plain_factor.proofs.Rows.{row_from_le, waiting_next}
 use Rattle.plain_factor.proofs.take_waiting.Goals as goal
 
 pub row_start-last-requires : goal.row_start-last-requires
@@ -15,21 +14,14 @@ row_start-last-requires c =
     (c.requires.column.order, omega arith, omega arith)
 
 -- a row of column j − 1 stands in the memory, at a place that fits
-inside : (c : goal.After-row_start-last) (i : ℕ)
-    → i < c.args.n
-    → let p = c.row_start-last.result + i in
-    (p < length c.args.matrix.now) × (p < 8002000)
-inside c i h =
-    rw c.row_start-last.ensures (row_place_le i (c.args.j - 1) c.requires.column (omega arith) h)
-
 pub overflow_add-x : goal.overflow_add-x
-overflow_add-x c = omega (arith, inside c c.args.j (omega arith))
+overflow_add-x c = omega (arith, row_from_le c.args.j (c.args.j - 1) c.row_start-last.result c.requires.column c.row_start-last.ensures (omega arith) (omega arith))
 
 pub offset_bounds-matrix-last : goal.offset_bounds-matrix-last
-offset_bounds-matrix-last c = omega (arith, inside c c.args.j (omega arith))
+offset_bounds-matrix-last c = omega (arith, row_from_le c.args.j (c.args.j - 1) c.row_start-last.result c.requires.column c.row_start-last.ensures (omega arith) (omega arith))
 
 pub bounds-matrix-last : goal.bounds-matrix-last
-bounds-matrix-last c = omega (arith, inside c.before c.args.j (omega arith))
+bounds-matrix-last c = omega (arith, row_from_le c.args.j (c.args.j - 1) c.row_start-last.result c.requires.column c.row_start-last.ensures (omega arith) (omega arith))
 
 pub loop-i-init : goal.loop-i-init
 loop-i-init c =
@@ -37,13 +29,13 @@ loop-i-init c =
     (omega arith, omega arith, rw sub_self (filled_none nan a.top _ a.work.now))
 
 pub overflow_add-work : goal.overflow_add-work
-overflow_add-work c = omega (arith, inside c.before.before.before.before c.loop-i.i (omega arith))
+overflow_add-work c = omega (arith, row_from_le c.loop-i.i (c.args.j - 1) c.row_start-last.result c.requires.column c.row_start-last.ensures (omega arith) (omega arith))
 
 pub offset_bounds-matrix-last-in-loop-i : goal.offset_bounds-matrix-last-in-loop-i
-offset_bounds-matrix-last-in-loop-i c = omega (arith, inside c.before.before.before.before c.loop-i.i (omega arith))
+offset_bounds-matrix-last-in-loop-i c = omega (arith, row_from_le c.loop-i.i (c.args.j - 1) c.row_start-last.result c.requires.column c.row_start-last.ensures (omega arith) (omega arith))
 
 pub bounds-matrix-last-in-loop-i : goal.bounds-matrix-last-in-loop-i
-bounds-matrix-last-in-loop-i c = omega (arith, inside c.before.before.before.before.before c.loop-i.i (omega arith))
+bounds-matrix-last-in-loop-i c = omega (arith, row_from_le c.loop-i.i (c.args.j - 1) c.row_start-last.result c.requires.column c.row_start-last.ensures (omega arith) (omega arith))
 
 pub loop-i-preserved : goal.loop-i-preserved
 loop-i-preserved c =

@@ -1,13 +1,8 @@
 -- `plain_factor::take_waiting` meets its contract. The loop's invariant: the rows before i are in place, and nothing else is changed. The measure is what is left of the rows. Assumes nothing.
-use Prim.Native.Nat.{ℕ, ◌+◌, ◌-◌, ◌≤◌, ◌<◌}
-use native.Mathlib.Nat.{sub_self}
-use native.Mathlib.Omega.{arith}
-use mathlib.Core.Path.{ap, ◌∙◌}
-use lib.ListN.{length, get_or}
-use lib.Ieee.{Float, nan, binary64, mul, sub}
+use Prim.Native.Nat.{◌+◌, ◌-◌, ◌≤◌}
+use lib.ListN.{get_or}
+use lib.Ieee.{nan, binary64, mul, sub}
 use Rattle.kernels.specs.Kernels.{Filled}
-use Rattle.kernels.proofs.Parts.{filled_none, filled_at, filled_here}
-use Rattle.plain_factor.proofs.Rows.{row_place_le, waiting_next}
 use Rattle.plain_factor.proofs.take_waiting.Given as goal
 
 abbrev pub invariant-loop-i : goal.invariant-loop-i

@@ -1,16 +1,12 @@
--- `rearrange::move_blocks` meets its contract. The loop's invariant: the columns before c, the first of a block column, are moved, and the places
-use mathlib.Core.Path.{◌≡◌, refl, ◌∙◌}
-use Prim.Native.Nat.{◌-◌, ◌≤◌}
+-- `rearrange::move_blocks` meets its contract. Assumes nothing.
+use mathlib.Core.Path.{refl, ◌∙◌}
 use native.Mathlib.Omega.{arith}
-use borrow.Author.Rules.{rules}
-use lib.ListN.{length}
-use Rattle.shape.specs.Places.{block_of}
 use Rattle.shape.proofs.Blocks.{block_of_le, block_of_next}
 use Rattle.shape.proofs.Bounds.{block_start_le}
-use Rattle.rearrange.proofs.Blocks.{MovedBefore, part_sizes, moved_before_first, moved_before_next, moved_all}
+use Rattle.rearrange.proofs.Blocks.{part_sizes, moved_before_first, moved_before_next, moved_all}
+use borrow.Author.Rules.{rules}
 use Rattle.rearrange.proofs.move_blocks.Goals as goal
 
--- from there on as they were. The measure is the number of columns left. Assumes nothing.
 pub loop-c-init : goal.loop-c-init
 loop-c-init c =
     let args = c.args in (
@@ -21,19 +17,15 @@ loop-c-init c =
     )
 
 -- the block column starts inside the matrix
-inside : (c : goal.After-block_start-at) → c.block_start-at.result ≤ length c.loop-c.matrix
-inside c =
-    let n = c.args.shape.order in
-    omega (arith, c.block_start-at.ensures, block_start_le n c.loop-c.c (omega arith))
 
 pub offset_bounds-matrix-at : goal.offset_bounds-matrix-at
-offset_bounds-matrix-at c = omega (arith, inside c)
+offset_bounds-matrix-at c = omega (arith, c.block_start-at.ensures, block_start_le c.args.shape.order c.loop-c.c (omega arith))
 
 pub slice_bounds-move_block-count : goal.slice_bounds-move_block-count
-slice_bounds-move_block-count c = inside c
+slice_bounds-move_block-count c = omega (arith, c.block_start-at.ensures, block_start_le c.args.shape.order c.loop-c.c (omega arith))
 
 pub slice_bounds-move_block-start : goal.slice_bounds-move_block-start
-slice_bounds-move_block-start c = inside c
+slice_bounds-move_block-start c = omega (arith, c.block_start-at.ensures, block_start_le c.args.shape.order c.loop-c.c (omega arith))
 
 pub move_block-requires : goal.move_block-requires
 move_block-requires c =
@@ -47,7 +39,7 @@ loop-c-preserved c =
     let args = c.args in
     let left = c.loop-c-test.true in
     let width = c.new-part.ensures.1 ∙ c.block_width.ensures in (
-      omega (arith, c.matrix-1.given),
+      search rules,
       omega (arith, c.move_block.auto),
       block_of_next args.shape.block c.loop-c.c (omega arith) c.loop-c.invariant.2,
       moved_before_next args.to args.shape.order args.shape.block c.loop-c.c c.block_start-at.result c.new-part.result.order c.new-part.result.block

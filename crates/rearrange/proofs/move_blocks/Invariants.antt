@@ -1,13 +1,10 @@
 -- `rearrange::move_blocks` meets its contract. The loop's invariant: the columns before c, the first of a block column, are moved, and the places
-use mathlib.Core.Path.{◌≡◌, refl, ◌∙◌}
-use Prim.Native.Nat.{◌-◌, ◌≤◌}
-use native.Mathlib.Omega.{arith}
-use borrow.Author.Rules.{rules}
+-- from there on as they were. The measure is the number of columns left. Assumes nothing.
+use mathlib.Core.Path.{◌≡◌}
+use Prim.Native.Nat.{◌-◌}
 use lib.ListN.{length}
 use Rattle.shape.specs.Places.{block_of}
-use Rattle.shape.proofs.Blocks.{block_of_le, block_of_next}
-use Rattle.shape.proofs.Bounds.{block_start_le}
-use Rattle.rearrange.proofs.Blocks.{MovedBefore, part_sizes, moved_before_first, moved_before_next, moved_all}
+use Rattle.rearrange.proofs.Blocks.{MovedBefore}
 use Rattle.rearrange.proofs.move_blocks.Given as goal
 
 abbrev pub invariant-loop-c : goal.invariant-loop-c

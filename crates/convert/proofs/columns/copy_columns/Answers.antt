@@ -1,18 +1,16 @@
--- `convert::columns::copy_columns` meets its contract. The loop's invariant: the columns before j are moved. The measure is the number of columns left.
+-- `convert::columns::copy_columns` meets its contract. Assumes nothing.
 use mathlib.Core.Path.{◌≡◌, refl, sym, ap, ◌∙◌}
-use Prim.Native.Nat.{◌+◌, ◌-◌, ◌≤◌, ◌<◌}
+use Prim.Native.Nat.{◌+◌, ◌-◌, ◌<◌}
 use native.Mathlib.Omega.{arith}
-use lib.ListN.{length, get_or}
+use lib.ListN.{get_or}
 use lib.Ieee.{nan}
 use Rattle.shape.specs.Layouts.{Entry}
 use Rattle.calls.specs.Conversions.{reverse, source_place, target_place}
 use Rattle.calls.proofs.Conversions.{target_bijection}
 use Rattle.kernels.proofs.Transfers.{moved_no_columns, join_columns, moved_rows}
-use Rattle.convert.specs.Halves.{Moved}
 use Rattle.convert.proofs.Halves.{down_column, column_fits, from_left}
 use Rattle.convert.proofs.columns.copy_columns.Goals as goal
 
--- Assumes nothing.
 pub loop-j-init : goal.loop-j-init
 loop-j-init c = (refl, omega arith, omega arith, moved_no_columns)
 

@@ -1,5 +1,4 @@
 -- `convert::places::places` meets its contract, by cases on the conversion. Assumes nothing.
-use borrow.Author.Rules.{rules}
 use Rattle.convert.proofs.places.places.Goals as goal
 
 pub returns-in-PackedToRfp : goal.returns-in-PackedToRfp

@@ -2,7 +2,6 @@
 use mathlib.Core.Path.{◌≡◌, sym, ◌∙◌}
 use native.Mathlib.Omega.{arith}
 use Rattle.convert.proofs.Halves.{stride_0, stride_1}
-use borrow.Author.Rules.{rules}
 use Rattle.convert.proofs.places.stride.Goals as goal
 
 pub returns-then-form-eq0 : goal.returns-then-form-eq0

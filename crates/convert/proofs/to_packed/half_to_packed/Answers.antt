@@ -1,16 +1,11 @@
--- `convert::to_packed::half_to_packed` meets its contract. The loop's invariant: the rows from `left` to i are moved. The measure is the number of
-use mathlib.Core.Path.{◌≡◌, refl}
-use Prim.Native.Nat.{◌-◌, ◌≤◌}
+-- `convert::to_packed::half_to_packed` meets its contract. Assumes nothing.
+use mathlib.Core.Path.{refl}
 use native.Mathlib.Omega.{arith}
-use borrow.Author.Rules.{rules}
-use lib.ListN.{length}
 use Rattle.calls.specs.declared.Conversion.TheVariants.{RfpToPacked}
 use Rattle.kernels.proofs.Transfers.{moved_no_rows, join_rows, join_columns}
-use Rattle.convert.specs.Halves.{Moved}
 use Rattle.convert.proofs.Halves.{narrow, from_left}
 use Rattle.convert.proofs.to_packed.half_to_packed.Goals as goal
 
--- rows left. Assumes nothing.
 pub loop-i-init : goal.loop-i-init
 loop-i-init c = (refl, omega arith, omega arith, moved_no_rows)
 

@@ -1,13 +1,10 @@
 -- `convert::to_packed::half_to_packed` meets its contract. The loop's invariant: the rows from `left` to i are moved. The measure is the number of
-use mathlib.Core.Path.{◌≡◌, refl}
+-- rows left. Assumes nothing.
+use mathlib.Core.Path.{◌≡◌}
 use Prim.Native.Nat.{◌-◌, ◌≤◌}
-use native.Mathlib.Omega.{arith}
-use borrow.Author.Rules.{rules}
 use lib.ListN.{length}
 use Rattle.calls.specs.declared.Conversion.TheVariants.{RfpToPacked}
-use Rattle.kernels.proofs.Transfers.{moved_no_rows, join_rows, join_columns}
 use Rattle.convert.specs.Halves.{Moved}
-use Rattle.convert.proofs.Halves.{narrow, from_left}
 use Rattle.convert.proofs.to_packed.half_to_packed.Given as goal
 
 abbrev pub invariant-loop-i : goal.invariant-loop-i

@@ -1,14 +1,12 @@
--- `convert::to_packed::rfp_places4` meets its contract. The loop's invariant: the first k places are stored, and `at` is place k. The measure is the number
-use mathlib.Core.Path.{◌≡◌, refl, sym}
-use Prim.Native.Nat.{ℕ, ◌+◌, ◌-◌, ◌*◌, ◌≤◌}
+-- `convert::to_packed::rfp_places4` meets its contract. Assumes nothing.
+use mathlib.Core.Path.{refl, sym}
+use Prim.Native.Nat.{ℕ}
 use native.Mathlib.Omega.{arith}
-use lib.ListN.{length}
 use Rattle.shape.proofs.Bounds.{triangle_le}
-use Rattle.kernels.proofs.Loops.{Stored, stored_none, stored_next}
+use Rattle.kernels.proofs.Loops.{stored_none, stored_next}
 use Rattle.convert.proofs.Halves.{rfp_place_below, stride_le}
 use Rattle.convert.proofs.to_packed.rfp_places4.Goals as goal
 
--- of places left. Assumes nothing.
 pub rfp_place-at-requires : goal.rfp_place-at-requires
 rfp_place-at-requires c = record { order_le_max_order = omega arith; entry = omega arith }
 

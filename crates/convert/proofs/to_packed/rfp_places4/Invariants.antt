@@ -1,11 +1,9 @@
 -- `convert::to_packed::rfp_places4` meets its contract. The loop's invariant: the first k places are stored, and `at` is place k. The measure is the number
-use mathlib.Core.Path.{◌≡◌, refl, sym}
-use Prim.Native.Nat.{ℕ, ◌+◌, ◌-◌, ◌*◌, ◌≤◌}
-use native.Mathlib.Omega.{arith}
+-- of places left. Assumes nothing.
+use mathlib.Core.Path.{◌≡◌}
+use Prim.Native.Nat.{◌+◌, ◌-◌, ◌*◌, ◌≤◌}
 use lib.ListN.{length}
-use Rattle.shape.proofs.Bounds.{triangle_le}
-use Rattle.kernels.proofs.Loops.{Stored, stored_none, stored_next}
-use Rattle.convert.proofs.Halves.{rfp_place_below, stride_le}
+use Rattle.kernels.proofs.Loops.{Stored}
 use Rattle.convert.proofs.to_packed.rfp_places4.Given as goal
 
 abbrev pub invariant-loop-k : goal.invariant-loop-k

@@ -1,21 +1,21 @@
--- `convert::to_packed::rows4_to_packed` meets its contract. The loop's invariant: the columns before j are moved, and `to` is the place of entry (i, j).
+-- `convert::to_packed::rows4_to_packed` meets its contract. The places of column j are j − left behind those of column left. Assumes nothing.
 use mathlib.Core.Path.{◌≡◌, refl, ap, ◌∙◌}
-use Prim.Native.Nat.{ℕ, ◌+◌, ◌-◌, ◌≤◌, ◌<◌}
+use Prim.Native.Nat.{ℕ, ◌+◌, ◌-◌, ◌*◌, ◌≤◌, ◌<◌}
 use native.Mathlib.Omega.{arith}
-use lib.ListN.{length, get_or}
+use mathlib.Core.List.{List}
+use lib.ListN.{get_or}
+use Rattle.shape.specs.Bounds.{max_order}
 use lib.Ieee.{nan}
 use Rattle.shape.specs.Places.{triangle, packed_place, rfp_place}
 use Rattle.shape.specs.Layouts.{Entry}
 use Rattle.shape.proofs.Bounds.{triangle_le}
 use Rattle.shape.proofs.Columns.{packed_place_rows, packed_place_next_column}
 use Rattle.shape.proofs.Bijections.{packed_bijection}
-use Rattle.calls.specs.declared.Conversion.TheVariants.{RfpToPacked}
 use Rattle.kernels.proofs.Transfers.{moved_no_columns, join_columns, moved_rows}
-use Rattle.convert.specs.Halves.{Moved}
+use Rattle.convert.specs.Halves.{stride, ByRows}
 use Rattle.convert.proofs.Halves.{rfp_place_below, packed_place_below, place_from_left}
 use Rattle.convert.proofs.to_packed.rows4_to_packed.Goals as goal
 
--- The places of column j are j − left behind those of column left. The measure is the number of columns left. Assumes nothing.
 pub rfp_places4-rows-requires : goal.rfp_places4-rows-requires
 rfp_places4-rows-requires c = record { order_le_max_order = omega arith; entry = omega arith }
 
@@ -26,42 +26,44 @@ pub loop-j-init : goal.loop-j-init
 loop-j-init c = (refl, omega arith, omega arith, c.packed_place-to.ensures, moved_no_columns)
 
 -- in a turn the eight places in the source are those of column j, and the eight in the target are in the triangle
-rows_at : (c : goal.In-loop-j) (k : ℕ)
+rows_at : (form n left right i j : ℕ) (places : List ℕ)
+    → ByRows form n left right
+    → left ≤ j
+    → j < right
+    → Entry n i left
+    → ((k : ℕ) → k < 4 → get_or places k 0 ≡ rfp_place form n i left + k * stride form n)
+    → (k : ℕ)
     → k < 4
-    → let args = c.args in
-    let j = c.loop-j.j in
-    get_or c.rfp_places4-rows.result k 0 + (j - args.left) ≡ rfp_place args.form args.shape.order (args.i + k) j
-rows_at c k h =
-    let args = c.args in
-    let j = c.loop-j.j in
-    let rows = c.requires.by_rows in
-    let along = place_from_left args.form args.shape.order args.left args.right rows args.i j k (omega arith) (omega arith) (omega arith) in
-    omega (arith, c.rfp_places4-rows.ensures k h, along)
+    → get_or places k 0 + (j - left) ≡ rfp_place form n (i + k) j
+rows_at form n left right i j places rows low high e first k h =
+    omega (arith, first k h, place_from_left form n left right rows i j k low high e)
 
-inside : (c : goal.In-loop-j)
-    → let n = c.args.shape.order in
-    (c.loop-j.to + 4 ≤ triangle n) × (triangle n ≤ 8002000)
-inside c =
-    let args = c.args in
-    let n : ℕ = args.shape.order in
-    let j = c.loop-j.j in
-    (omega (arith, packed_place_rows n args.i (args.i + 3) j (omega arith), packed_place_below n (args.i + 3) j (omega arith)), triangle_le n (omega arith))
+inside : (n i j : ℕ) → n ≤ max_order → j ≤ i → i + 4 ≤ n → (packed_place n i j + 4 ≤ triangle n) × (triangle n ≤ 8002000)
+inside n i j order low high =
+    (omega (arith, packed_place_rows n i (i + 3) j (omega arith), packed_place_below n (i + 3) j (omega arith)), triangle_le n order)
 
 pub gather_part8-values-requires : goal.gather_part8-values-requires
 gather_part8-values-requires c =
-    let args = c.args in
-    let j = c.loop-j.j in record { count_bound = omega arith; by_index = λ k h. omega (arith, rows_at c k h, rfp_place_below args.form args.shape.order (args.i + k) j (omega arith)) }
+    let a = c.args in
+    let n : ℕ = a.shape.order in
+    let at = rows_at a.form n a.left a.right a.i c.loop-j.j c.rfp_places4-rows.result c.requires.by_rows (omega arith) (omega arith) (omega arith)
+    c.rfp_places4-rows.ensures in record {
+      count_bound = omega arith;
+      by_index = λ k h. omega (arith, at k h, rfp_place_below a.form n (a.i + k) c.loop-j.j (omega arith));
+    }
 
 pub store_part8-requires : goal.store_part8-requires
-store_part8-requires c = omega (arith, inside c.before.before)
+store_part8-requires c = omega (arith, inside c.args.shape.order c.args.i c.loop-j.j (omega arith) (omega arith) (omega arith))
 
 pub overflow_add-to : goal.overflow_add-to
-overflow_add-to c = omega (arith, inside c.before.before.before.before.before.before)
+overflow_add-to c = omega (arith, inside c.args.shape.order c.args.i c.loop-j.j (omega arith) (omega arith) (omega arith))
 
 pub loop-j-preserved : goal.loop-j-preserved
 loop-j-preserved c =
     let args = c.args in
-    let n : ℕ = args.shape.order in (
+    let n : ℕ = args.shape.order in
+    let at = rows_at args.form n args.left args.right args.i c.loop-j.j c.rfp_places4-rows.result c.requires.by_rows (omega arith) (omega arith) (omega arith)
+    c.rfp_places4-rows.ensures in (
       omega (arith, c.store_part8.auto),
       omega arith,
       omega arith,
@@ -71,7 +73,7 @@ loop-j-preserved c =
           c.loop-j.to 4 _ _ c.store_part8.ensures args.i c.loop-j.j
           (λ k h. omega arith)
           (λ k h. omega (arith, packed_place_rows n args.i (args.i + k) c.loop-j.j (omega arith)))
-          (λ k h. c.gather_part8-values.ensures k h ∙ ap (λ (p : ℕ). get_or args.source.now p nan) (rows_at c.before.before.before.before.before.before k h))),
+          (λ k h. c.gather_part8-values.ensures k h ∙ ap (λ (p : ℕ). get_or args.source.now p nan) (at k h))),
     )
 
 pub returns : goal.returns

@@ -1,18 +1,11 @@
 -- `convert::to_packed::rows4_to_packed` meets its contract. The loop's invariant: the columns before j are moved, and `to` is the place of entry (i, j).
-use mathlib.Core.Path.{◌≡◌, refl, ap, ◌∙◌}
-use Prim.Native.Nat.{ℕ, ◌+◌, ◌-◌, ◌≤◌, ◌<◌}
-use native.Mathlib.Omega.{arith}
-use lib.ListN.{length, get_or}
-use lib.Ieee.{nan}
-use Rattle.shape.specs.Places.{triangle, packed_place, rfp_place}
-use Rattle.shape.specs.Layouts.{Entry}
-use Rattle.shape.proofs.Bounds.{triangle_le}
-use Rattle.shape.proofs.Columns.{packed_place_rows, packed_place_next_column}
-use Rattle.shape.proofs.Bijections.{packed_bijection}
+-- The places of column j are j − left behind those of column left. The measure is the number of columns left. Assumes nothing.
+use mathlib.Core.Path.{◌≡◌}
+use Prim.Native.Nat.{◌+◌, ◌-◌, ◌≤◌}
+use lib.ListN.{length}
+use Rattle.shape.specs.Places.{packed_place}
 use Rattle.calls.specs.declared.Conversion.TheVariants.{RfpToPacked}
-use Rattle.kernels.proofs.Transfers.{moved_no_columns, join_columns, moved_rows}
 use Rattle.convert.specs.Halves.{Moved}
-use Rattle.convert.proofs.Halves.{rfp_place_below, packed_place_below, place_from_left}
 use Rattle.convert.proofs.to_packed.rows4_to_packed.Given as goal
 
 abbrev pub invariant-loop-j : goal.invariant-loop-j

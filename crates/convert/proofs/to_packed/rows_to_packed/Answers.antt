@@ -1,16 +1,11 @@
--- `convert::to_packed::rows_to_packed` meets its contract. The loop's invariant: the rows before i are moved. The measure is the number of rows
+-- `convert::to_packed::rows_to_packed` meets its contract. Assumes nothing.
 use mathlib.Core.Path.{◌≡◌, refl}
-use Prim.Native.Nat.{◌-◌, ◌≤◌}
 use native.Mathlib.Omega.{arith}
-use borrow.Author.Rules.{rules}
-use lib.ListN.{length}
 use Rattle.calls.specs.declared.Conversion.TheVariants.{RfpToPacked}
 use Rattle.kernels.proofs.Transfers.{moved_no_rows, join_rows}
-use Rattle.convert.specs.Halves.{Moved}
 use Rattle.convert.proofs.Halves.{narrow, to_diagonal}
 use Rattle.convert.proofs.to_packed.rows_to_packed.Goals as goal
 
--- left. Assumes nothing.
 pub loop-i-init : goal.loop-i-init
 loop-i-init c = (refl, omega arith, omega arith, moved_no_rows)
 

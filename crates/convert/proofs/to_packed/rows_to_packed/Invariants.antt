@@ -1,13 +1,10 @@
 -- `convert::to_packed::rows_to_packed` meets its contract. The loop's invariant: the rows before i are moved. The measure is the number of rows
-use mathlib.Core.Path.{◌≡◌, refl}
+-- left. Assumes nothing.
+use mathlib.Core.Path.{◌≡◌}
 use Prim.Native.Nat.{◌-◌, ◌≤◌}
-use native.Mathlib.Omega.{arith}
-use borrow.Author.Rules.{rules}
 use lib.ListN.{length}
 use Rattle.calls.specs.declared.Conversion.TheVariants.{RfpToPacked}
-use Rattle.kernels.proofs.Transfers.{moved_no_rows, join_rows}
 use Rattle.convert.specs.Halves.{Moved}
-use Rattle.convert.proofs.Halves.{narrow, to_diagonal}
 use Rattle.convert.proofs.to_packed.rows_to_packed.Given as goal
 
 abbrev pub invariant-loop-i : goal.invariant-loop-i

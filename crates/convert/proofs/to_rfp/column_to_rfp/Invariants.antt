@@ -1,15 +1,11 @@
 -- `convert::to_rfp::column_to_rfp` meets its contract. The loop's invariant: the rows before i are moved, and `from` and `to` are the places of entry
-use mathlib.Core.Path.{◌≡◌, refl}
-use Prim.Native.Nat.{◌+◌, ◌-◌, ◌≤◌, ◌<◌}
-use native.Mathlib.Omega.{arith}
-use lib.ListN.{length, length-set}
-use Rattle.shape.specs.Places.{triangle, packed_place, rfp_place}
-use Rattle.shape.proofs.Bounds.{triangle_le}
-use Rattle.shape.proofs.Columns.{packed_place_next_row}
+-- (i, j). The measure is the number of rows left. Assumes nothing.
+use mathlib.Core.Path.{◌≡◌}
+use Prim.Native.Nat.{◌+◌, ◌-◌, ◌≤◌}
+use lib.ListN.{length}
+use Rattle.shape.specs.Places.{packed_place, rfp_place}
 use Rattle.calls.specs.declared.Conversion.TheVariants.{PackedToRfp}
-use Rattle.kernels.proofs.Transfers.{moved_no_rows, join_rows}
 use Rattle.convert.specs.Halves.{Moved}
-use Rattle.convert.proofs.Halves.{stride_le, rfp_place_below, packed_place_below, next_row, moved_at}
 use Rattle.convert.proofs.to_rfp.column_to_rfp.Given as goal
 
 abbrev pub invariant-loop-i : goal.invariant-loop-i

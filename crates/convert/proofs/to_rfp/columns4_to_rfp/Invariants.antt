@@ -1,18 +1,11 @@
 -- `convert::to_rfp::columns4_to_rfp` meets its contract. The loop's invariant: the rows before i are moved, and `to` is the place of entry (i, j). The
-use mathlib.Core.Path.{◌≡◌, refl, ap, ◌∙◌}
-use Prim.Native.Nat.{ℕ, ◌+◌, ◌-◌, ◌≤◌, ◌<◌}
-use native.Mathlib.Omega.{arith}
-use lib.ListN.{length, get_or}
-use lib.Ieee.{nan}
-use Rattle.shape.specs.Places.{triangle, packed_place, rfp_place}
-use Rattle.shape.specs.Layouts.{Entry}
-use Rattle.shape.proofs.Bounds.{triangle_le}
-use Rattle.shape.proofs.Columns.{packed_place_rows}
-use Rattle.shape.proofs.Rfp.{rfp_bijection}
+-- packed places of row i are i − first behind those of row first. The measure is the number of rows left. Assumes nothing.
+use mathlib.Core.Path.{◌≡◌}
+use Prim.Native.Nat.{◌+◌, ◌-◌, ◌≤◌}
+use lib.ListN.{length}
+use Rattle.shape.specs.Places.{rfp_place}
 use Rattle.calls.specs.declared.Conversion.TheVariants.{PackedToRfp}
-use Rattle.kernels.proofs.Transfers.{moved_no_rows, join_rows, moved_columns}
 use Rattle.convert.specs.Halves.{Moved}
-use Rattle.convert.proofs.Halves.{stride_le, rfp_place_below, packed_place_below, next_row, along_row}
 use Rattle.convert.proofs.to_rfp.columns4_to_rfp.Given as goal
 
 abbrev pub invariant-loop-i : goal.invariant-loop-i

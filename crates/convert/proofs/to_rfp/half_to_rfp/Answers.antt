@@ -1,15 +1,11 @@
--- `convert::to_rfp::half_to_rfp` meets its contract. The loop's invariant: the columns before j are moved. The measure is the number of columns left.
-use mathlib.Core.Path.{◌≡◌, refl}
-use Prim.Native.Nat.{◌+◌, ◌-◌, ◌≤◌}
+-- `convert::to_rfp::half_to_rfp` meets its contract. Assumes nothing.
+use mathlib.Core.Path.{refl}
+use Prim.Native.Nat.{◌+◌}
 use native.Mathlib.Omega.{arith}
-use lib.ListN.{length}
-use Rattle.calls.specs.declared.Conversion.TheVariants.{PackedToRfp}
 use Rattle.kernels.proofs.Transfers.{moved_no_columns, join_rows, join_columns}
-use Rattle.convert.specs.Halves.{Moved}
 use Rattle.convert.proofs.Halves.{narrow}
 use Rattle.convert.proofs.to_rfp.half_to_rfp.Goals as goal
 
--- Assumes nothing.
 pub loop-j-init : goal.loop-j-init
 loop-j-init c = (refl, omega arith, omega arith, moved_no_columns)
 

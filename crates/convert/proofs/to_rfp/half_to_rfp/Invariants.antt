@@ -1,12 +1,10 @@
 -- `convert::to_rfp::half_to_rfp` meets its contract. The loop's invariant: the columns before j are moved. The measure is the number of columns left.
-use mathlib.Core.Path.{◌≡◌, refl}
-use Prim.Native.Nat.{◌+◌, ◌-◌, ◌≤◌}
-use native.Mathlib.Omega.{arith}
+-- Assumes nothing.
+use mathlib.Core.Path.{◌≡◌}
+use Prim.Native.Nat.{◌-◌, ◌≤◌}
 use lib.ListN.{length}
 use Rattle.calls.specs.declared.Conversion.TheVariants.{PackedToRfp}
-use Rattle.kernels.proofs.Transfers.{moved_no_columns, join_rows, join_columns}
 use Rattle.convert.specs.Halves.{Moved}
-use Rattle.convert.proofs.Halves.{narrow}
 use Rattle.convert.proofs.to_rfp.half_to_rfp.Given as goal
 
 abbrev pub invariant-loop-j : goal.invariant-loop-j

@@ -1,40 +1,31 @@
--- `rearrange::below::column_to_blocked` meets its contract. The loop's invariant: the rows before r are moved, and `from` and `to` are the places of
+-- `rearrange::below::column_to_blocked` meets its contract. Assumes nothing.
 use mathlib.Core.Path.{◌≡◌}
-use Prim.Native.Nat.{◌-◌, ◌≤◌, ◌<◌}
 use native.Mathlib.Omega.{arith}
-use Rattle.shape.specs.Places.{block_start}
-use Rattle.calls.specs.declared.Layout.TheVariants.{Blocked}
-use Rattle.rearrange.proofs.Moves.{ColumnMoved, column_none, column_inside, column_next}
+use Rattle.rearrange.proofs.Moves.{column_none, column_inside, column_next}
 use Rattle.rearrange.proofs.below.column_to_blocked.Goals as goal
 
--- entry (r, s). The measure is the number of rows left. Assumes nothing.
 pub loop-r-init : goal.loop-r-init
 loop-r-init c = (omega arith, column_none c.packed_place-from.ensures c.place_in_block-to.ensures)
 
 -- in a turn both places lie in the block column
-inside : (c : goal.In-loop-r)
-    → let part = c.args.part in
-    (c.loop-r.from < block_start part.order part.block) × (c.loop-r.to < block_start part.order part.block)
-inside c =
-    column_inside c.requires.sizes (omega arith) c.loop-r.invariant.1
 
 pub offset_bounds-source-from : goal.offset_bounds-source-from
-offset_bounds-source-from c = omega (arith, inside c)
+offset_bounds-source-from c = omega (arith, column_inside c.requires.sizes (omega arith) c.loop-r.invariant.1)
 
 pub bounds-source-from : goal.bounds-source-from
-bounds-source-from c = omega (arith, inside c.before)
+bounds-source-from c = omega (arith, column_inside c.requires.sizes (omega arith) c.loop-r.invariant.1)
 
 pub offset_bounds-target-to : goal.offset_bounds-target-to
-offset_bounds-target-to c = omega (arith, inside c.before)
+offset_bounds-target-to c = omega (arith, column_inside c.requires.sizes (omega arith) c.loop-r.invariant.1)
 
 pub bounds-target-to : goal.bounds-target-to
-bounds-target-to c = omega (arith, inside c.before)
+bounds-target-to c = omega (arith, column_inside c.requires.sizes (omega arith) c.loop-r.invariant.1)
 
 pub overflow_add-from : goal.overflow_add-from
-overflow_add-from c = omega (arith, inside c.before)
+overflow_add-from c = omega (arith, column_inside c.requires.sizes (omega arith) c.loop-r.invariant.1)
 
 pub overflow_add-to : goal.overflow_add-to
-overflow_add-to c = omega (arith, inside c.before.before)
+overflow_add-to c = omega (arith, column_inside c.requires.sizes (omega arith) c.loop-r.invariant.1)
 
 pub loop-r-preserved : goal.loop-r-preserved
 loop-r-preserved c =

@@ -1,10 +1,8 @@
 -- `rearrange::below::column_to_blocked` meets its contract. The loop's invariant: the rows before r are moved, and `from` and `to` are the places of
-use mathlib.Core.Path.{◌≡◌}
-use Prim.Native.Nat.{◌-◌, ◌≤◌, ◌<◌}
-use native.Mathlib.Omega.{arith}
-use Rattle.shape.specs.Places.{block_start}
+-- entry (r, s). The measure is the number of rows left. Assumes nothing.
+use Prim.Native.Nat.{◌-◌, ◌≤◌}
 use Rattle.calls.specs.declared.Layout.TheVariants.{Blocked}
-use Rattle.rearrange.proofs.Moves.{ColumnMoved, column_none, column_inside, column_next}
+use Rattle.rearrange.proofs.Moves.{ColumnMoved}
 use Rattle.rearrange.proofs.below.column_to_blocked.Given as goal
 
 abbrev pub invariant-loop-r : goal.invariant-loop-r

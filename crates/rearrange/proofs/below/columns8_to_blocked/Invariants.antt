@@ -1,17 +1,11 @@
 -- `rearrange::below::columns8_to_blocked` meets its contract. The loop's invariant: the rows before r are moved, and q is the place of entry (r, s).
-use mathlib.Core.Path.{◌≡◌, refl, ap, ◌∙◌}
-use Prim.Native.Nat.{ℕ, ◌+◌, ◌-◌, ◌≤◌, ◌<◌}
-use native.Mathlib.Omega.{arith}
-use lib.ListN.{length, get_or}
-use lib.Ieee.{nan}
-use Rattle.shape.specs.Places.{packed_place, block_start, place_in_block}
-use Rattle.shape.proofs.Columns.{packed_place_rows}
-use Rattle.shape.proofs.Rows.{place_in_block_row, place_in_block_next_row_under}
-use Rattle.calls.specs.declared.Layout.TheVariants.{Packed, Blocked}
-use Rattle.kernels.proofs.Transfers.{moved_no_rows, join_rows}
+-- The packed places of row r are r − first behind those of row first. The measure is the number of rows left. Assumes nothing.
+use mathlib.Core.Path.{◌≡◌}
+use Prim.Native.Nat.{◌+◌, ◌-◌, ◌≤◌}
+use lib.ListN.{length}
+use Rattle.shape.specs.Places.{place_in_block}
+use Rattle.calls.specs.declared.Layout.TheVariants.{Blocked}
 use Rattle.rearrange.specs.Moves.{Moved}
-use Rattle.rearrange.proofs.Places.{place_in_part_lt}
-use Rattle.rearrange.proofs.Moves.{moved_columns}
 use Rattle.rearrange.proofs.below.columns8_to_blocked.Given as goal
 
 abbrev pub invariant-loop-r : goal.invariant-loop-r

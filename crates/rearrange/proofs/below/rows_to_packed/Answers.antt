@@ -1,14 +1,9 @@
--- `rearrange::below::rows_to_packed` meets its contract. The loop's invariant: the columns before s are moved. The measure is the number of columns
+-- `rearrange::below::rows_to_packed` meets its contract. Assumes nothing.
 use mathlib.Core.Path.{◌≡◌, refl}
-use Prim.Native.Nat.{◌-◌, ◌≤◌}
 use native.Mathlib.Omega.{arith}
-use lib.ListN.{length}
-use Rattle.calls.specs.declared.Layout.TheVariants.{Packed}
 use Rattle.kernels.proofs.Transfers.{moved_no_columns, join_columns}
-use Rattle.rearrange.specs.Moves.{Moved}
 use Rattle.rearrange.proofs.below.rows_to_packed.Goals as goal
 
--- left. Assumes nothing.
 pub loop-s-init : goal.loop-s-init
 loop-s-init c = (refl, omega arith, moved_no_columns)
 

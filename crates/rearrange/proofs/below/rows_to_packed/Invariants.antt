@@ -1,10 +1,9 @@
 -- `rearrange::below::rows_to_packed` meets its contract. The loop's invariant: the columns before s are moved. The measure is the number of columns
-use mathlib.Core.Path.{◌≡◌, refl}
+-- left. Assumes nothing.
+use mathlib.Core.Path.{◌≡◌}
 use Prim.Native.Nat.{◌-◌, ◌≤◌}
-use native.Mathlib.Omega.{arith}
 use lib.ListN.{length}
 use Rattle.calls.specs.declared.Layout.TheVariants.{Packed}
-use Rattle.kernels.proofs.Transfers.{moved_no_columns, join_columns}
 use Rattle.rearrange.specs.Moves.{Moved}
 use Rattle.rearrange.proofs.below.rows_to_packed.Given as goal
 

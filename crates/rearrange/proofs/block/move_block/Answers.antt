@@ -1,14 +1,13 @@
 -- `rearrange::block::move_block` meets its contract: the block column stands in the work memory in the new order, and its values are copied back.
+-- Assumes nothing.
 use mathlib.Core.Path.{sym}
 use Prim.Native.Nat.{◌≤◌}
 use native.Mathlib.Omega.{arith}
-use borrow.Author.Rules.{rules}
 use lib.ListN.{length, length-take}
 use lib.Seq.{length-take-le}
 use Rattle.rearrange.proofs.Moves.{moved_back}
 use Rattle.rearrange.proofs.block.move_block.Goals as goal
 
--- Assumes nothing.
 pub slice_bounds-copy-end-2 : goal.slice_bounds-copy-end-2
 slice_bounds-copy-end-2 c =
     sym (length-take-le _ _ (omega (arith, c.block_start-length.ensures, c.move_rows.auto)))

@@ -1,14 +1,9 @@
--- `rearrange::block::move_rows` meets its contract. The loop's invariant: the rows from the diagonal block's end to r are moved. The measure is the
+-- `rearrange::block::move_rows` meets its contract. Assumes nothing.
 use mathlib.Core.Path.{◌≡◌, refl}
-use Prim.Native.Nat.{◌-◌, ◌≤◌}
 use native.Mathlib.Omega.{arith}
-use borrow.Author.Rules.{rules}
-use lib.ListN.{length}
 use Rattle.kernels.proofs.Transfers.{moved_no_rows, join_rows}
-use Rattle.rearrange.specs.Moves.{Moved}
 use Rattle.rearrange.proofs.block.move_rows.Goals as goal
 
--- number of rows left. Assumes nothing.
 pub loop-r-init : goal.loop-r-init
 loop-r-init c = (refl, omega arith, omega arith, moved_no_rows)
 

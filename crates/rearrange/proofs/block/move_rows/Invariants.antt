@@ -1,10 +1,8 @@
 -- `rearrange::block::move_rows` meets its contract. The loop's invariant: the rows from the diagonal block's end to r are moved. The measure is the
-use mathlib.Core.Path.{◌≡◌, refl}
+-- number of rows left. Assumes nothing.
+use mathlib.Core.Path.{◌≡◌}
 use Prim.Native.Nat.{◌-◌, ◌≤◌}
-use native.Mathlib.Omega.{arith}
-use borrow.Author.Rules.{rules}
 use lib.ListN.{length}
-use Rattle.kernels.proofs.Transfers.{moved_no_rows, join_rows}
 use Rattle.rearrange.specs.Moves.{Moved}
 use Rattle.rearrange.proofs.block.move_rows.Given as goal
 

@@ -1,5 +1,4 @@
 -- `rearrange::block::move_tile` meets its contract: each arm moves to the layout that the match has told. Assumes nothing.
-use borrow.Author.Rules.{rules}
 use Rattle.rearrange.proofs.block.move_tile.Goals as goal
 
 pub returns-in-Packed : goal.returns-in-Packed

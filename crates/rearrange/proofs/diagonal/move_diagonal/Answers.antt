@@ -1,13 +1,9 @@
--- `rearrange::diagonal::move_diagonal` meets its contract. The loop's invariant: the rows before r are moved. The measure is the number of rows
+-- `rearrange::diagonal::move_diagonal` meets its contract. Assumes nothing.
 use mathlib.Core.Path.{◌≡◌, refl}
-use Prim.Native.Nat.{◌-◌, ◌≤◌}
 use native.Mathlib.Omega.{arith}
-use lib.ListN.{length}
 use Rattle.kernels.proofs.Transfers.{moved_no_rows, join_rows}
-use Rattle.rearrange.specs.Moves.{Moved}
 use Rattle.rearrange.proofs.diagonal.move_diagonal.Goals as goal
 
--- left. Assumes nothing.
 pub loop-r-init : goal.loop-r-init
 loop-r-init c = (refl, omega arith, moved_no_rows)
 

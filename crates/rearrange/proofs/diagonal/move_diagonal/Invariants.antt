@@ -1,9 +1,8 @@
 -- `rearrange::diagonal::move_diagonal` meets its contract. The loop's invariant: the rows before r are moved. The measure is the number of rows
-use mathlib.Core.Path.{◌≡◌, refl}
+-- left. Assumes nothing.
+use mathlib.Core.Path.{◌≡◌}
 use Prim.Native.Nat.{◌-◌, ◌≤◌}
-use native.Mathlib.Omega.{arith}
 use lib.ListN.{length}
-use Rattle.kernels.proofs.Transfers.{moved_no_rows, join_rows}
 use Rattle.rearrange.specs.Moves.{Moved}
 use Rattle.rearrange.proofs.diagonal.move_diagonal.Given as goal
 

@@ -1,20 +1,17 @@
--- `rearrange::diagonal::move_row` meets its contract. The loop's invariant: the columns before s are moved, and p and q are the places of entry
+-- `rearrange::diagonal::move_row` meets its contract. Assumes nothing.
 use mathlib.Core.Path.{◌≡◌, refl}
-use Prim.Native.Nat.{◌+◌, ◌-◌, ◌≤◌}
+use Prim.Native.Nat.{◌+◌}
 use native.Mathlib.Omega.{arith}
-use lib.ListN.{length}
-use Rattle.shape.specs.Places.{packed_place, place_in_block}
 use Rattle.shape.specs.Layouts.{Entry}
 use Rattle.shape.proofs.Columns.{packed_place_next_column}
 use Rattle.shape.proofs.Rows.{place_in_block_next_column}
 use Rattle.calls.specs.declared.Layout.TheVariants.{Packed, Blocked}
 use Rattle.kernels.proofs.Transfers.{moved_no_columns, join_columns}
-use Rattle.rearrange.specs.Moves.{other, Moved}
+use Rattle.rearrange.specs.Moves.{other}
 use Rattle.rearrange.proofs.Places.{place_in_part_lt, in_layout_lt}
 use Rattle.rearrange.proofs.Moves.{to_diagonal, moved_entry}
 use Rattle.rearrange.proofs.diagonal.move_row.Goals as goal
 
--- (r, s). The measure is the number of columns left. Assumes nothing.
 pub loop-s-init : goal.loop-s-init
 loop-s-init c = (refl, omega arith, c.packed_place-p.ensures, c.place_in_block-q.ensures, moved_no_columns)
 

@@ -1,17 +1,10 @@
 -- `rearrange::diagonal::move_row` meets its contract. The loop's invariant: the columns before s are moved, and p and q are the places of entry
-use mathlib.Core.Path.{◌≡◌, refl}
+-- (r, s). The measure is the number of columns left. Assumes nothing.
+use mathlib.Core.Path.{◌≡◌}
 use Prim.Native.Nat.{◌+◌, ◌-◌, ◌≤◌}
-use native.Mathlib.Omega.{arith}
 use lib.ListN.{length}
 use Rattle.shape.specs.Places.{packed_place, place_in_block}
-use Rattle.shape.specs.Layouts.{Entry}
-use Rattle.shape.proofs.Columns.{packed_place_next_column}
-use Rattle.shape.proofs.Rows.{place_in_block_next_column}
-use Rattle.calls.specs.declared.Layout.TheVariants.{Packed, Blocked}
-use Rattle.kernels.proofs.Transfers.{moved_no_columns, join_columns}
-use Rattle.rearrange.specs.Moves.{other, Moved}
-use Rattle.rearrange.proofs.Places.{place_in_part_lt, in_layout_lt}
-use Rattle.rearrange.proofs.Moves.{to_diagonal, moved_entry}
+use Rattle.rearrange.specs.Moves.{Moved}
 use Rattle.rearrange.proofs.diagonal.move_row.Given as goal
 
 abbrev pub invariant-loop-s : goal.invariant-loop-s

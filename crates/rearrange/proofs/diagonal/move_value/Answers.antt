@@ -1,6 +1,5 @@
 -- `rearrange::diagonal::move_value` meets its contract: in each arm the two places that the contract names are the two of the code. Assumes nothing.
 use native.Mathlib.Omega.{arith}
-use borrow.Author.Rules.{rules}
 use Rattle.rearrange.proofs.diagonal.move_value.Goals as goal
 
 pub offset_bounds-source-q : goal.offset_bounds-source-q
