@@ -1,4 +1,5 @@
 -- `blocked_factor::column_finite` meets its contract. The loop's invariant: `finite` is the answer for the rows before r. The measure is what is left of
+-- the rows. Assumes nothing.
 use Prim.Native.Nat.{◌+◌, ◌-◌, ◌≤◌, ◌<◌}
 use native.Mathlib.Omega.{arith}
 use mathlib.Core.Path.{◌≡◌, ap₂, ◌∙◌}
@@ -9,8 +10,6 @@ use Rattle.blocked_factor.specs.BlockColumns.{row_start, column_finite}
 use Rattle.blocked_factor.proofs.BlockRows.{row_lt}
 use Rattle.blocked_factor.proofs.BlockVerdicts.{column_none, column_next}
 use Rattle.blocked_factor.proofs.column_finite.Goals as goal
-
--- the rows. Assumes nothing.
 
 -- in a turn the entry lies in the memory
 inside : (c : goal.In-loop-r)

@@ -1,4 +1,5 @@
 -- `blocked_factor::column_finite` meets its contract. The loop's invariant: `finite` is the answer for the rows before r. The measure is what is left of
+-- the rows. Assumes nothing.
 use Prim.Native.Nat.{◌+◌, ◌-◌, ◌≤◌, ◌<◌}
 use native.Mathlib.Omega.{arith}
 use mathlib.Core.Path.{◌≡◌, ap₂, ◌∙◌}

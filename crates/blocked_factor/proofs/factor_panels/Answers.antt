@@ -1,4 +1,5 @@
 -- `blocked_factor::factor_panels` meets its contract. The loop's invariant: the columns before s0 are finished, and judged by their pivots, and the saved
+-- entry values stay. The measure is what is left of the columns. Assumes nothing.
 use Prim.Native.Nat.{◌-◌, ◌≤◌}
 use native.Mathlib.Omega.{arith}
 use mathlib.Core.Path.{◌≡◌, refl, ◌∙◌}
@@ -8,7 +9,6 @@ use Rattle.blocked_factor.specs.BlockStages.{ColumnsFinished}
 use Rattle.blocked_factor.proofs.Finishing.{same_join, columns_none, columns_join}
 use Rattle.blocked_factor.proofs.factor_panels.Goals as goal
 
--- entry values stay. The measure is what is left of the columns. Assumes nothing.
 pub loop-s0-init : goal.loop-s0-init
 loop-s0-init c = (omega arith, refl, record { at = λ p low. refl }, columns_none _ _ _ _ _ _ _)
 

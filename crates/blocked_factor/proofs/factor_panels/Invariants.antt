@@ -1,4 +1,5 @@
 -- `blocked_factor::factor_panels` meets its contract. The loop's invariant: the columns before s0 are finished, and judged by their pivots, and the saved
+-- entry values stay. The measure is what is left of the columns. Assumes nothing.
 use Prim.Native.Nat.{◌-◌, ◌≤◌}
 use native.Mathlib.Omega.{arith}
 use mathlib.Core.Path.{◌≡◌, refl, ◌∙◌}

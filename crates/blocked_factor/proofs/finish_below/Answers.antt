@@ -1,4 +1,5 @@
 -- `blocked_factor::finish_below` meets its contract. The loop's invariant: the rows before r are finished. The measure is what is left of the rows.
+-- Assumes nothing.
 use Prim.Native.Nat.{◌+◌, ◌-◌, ◌≤◌}
 use native.Mathlib.Nat.{le_refl}
 use native.Mathlib.Omega.{arith}
@@ -8,7 +9,6 @@ use Rattle.blocked_factor.proofs.BlockRows.{row_mono}
 use Rattle.blocked_factor.proofs.Finishing.{below_none, below_next}
 use Rattle.blocked_factor.proofs.finish_below.Goals as goal
 
--- Assumes nothing.
 pub loop-r-init : goal.loop-r-init
 loop-r-init c = (le_refl _, omega (arith, c.requires), below_none _ _ _ _ _)
 

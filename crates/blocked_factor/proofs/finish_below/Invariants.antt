@@ -1,4 +1,5 @@
 -- `blocked_factor::finish_below` meets its contract. The loop's invariant: the rows before r are finished. The measure is what is left of the rows.
+-- Assumes nothing.
 use Prim.Native.Nat.{◌+◌, ◌-◌, ◌≤◌}
 use native.Mathlib.Nat.{le_refl}
 use native.Mathlib.Omega.{arith}

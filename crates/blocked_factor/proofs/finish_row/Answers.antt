@@ -1,4 +1,5 @@
 -- `blocked_factor::finish_row` meets its contract. The loop's invariant: the row is finished in columns s0 .. s − 1. The measure is what is left of the
+-- columns. Assumes nothing.
 use Prim.Native.Nat.{◌+◌, ◌-◌, ◌≤◌, ◌<◌}
 use native.Mathlib.Nat.{le_refl}
 use native.Mathlib.Omega.{arith}
@@ -9,8 +10,6 @@ use Rattle.blocked_factor.specs.BlockStages.{RowsFinished}
 use Rattle.blocked_factor.proofs.BlockRows.{row_next, row_lt}
 use Rattle.blocked_factor.proofs.Finishing.{divided_one, rows_none, rows_next}
 use Rattle.blocked_factor.proofs.finish_row.Goals as goal
-
--- columns. Assumes nothing.
 
 -- in a turn the entry and its column's diagonal lie in the memory
 inside : (c : goal.In-loop-s)

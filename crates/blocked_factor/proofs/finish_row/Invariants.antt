@@ -1,4 +1,5 @@
 -- `blocked_factor::finish_row` meets its contract. The loop's invariant: the row is finished in columns s0 .. s − 1. The measure is what is left of the
+-- columns. Assumes nothing.
 use Prim.Native.Nat.{◌+◌, ◌-◌, ◌≤◌, ◌<◌}
 use native.Mathlib.Nat.{le_refl}
 use native.Mathlib.Omega.{arith}

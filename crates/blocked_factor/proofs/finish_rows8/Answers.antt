@@ -1,4 +1,5 @@
 -- `blocked_factor::finish_rows8` meets its contract. The loop's invariant: the rows are finished in columns s0 .. s − 1. The measure is what is left of the
+-- columns. Assumes nothing.
 use Prim.Native.Nat.{◌+◌, ◌-◌, ◌≤◌}
 use native.Mathlib.Nat.{le_refl}
 use native.Mathlib.Omega.{arith}
@@ -7,7 +8,6 @@ use Rattle.blocked_factor.specs.BlockStages.{RowsFinished}
 use Rattle.blocked_factor.proofs.Finishing.{rows_none, rows_next}
 use Rattle.blocked_factor.proofs.finish_rows8.Goals as goal
 
--- columns. Assumes nothing.
 pub row_places8-at-requires : goal.row_places8-at-requires
 row_places8-at-requires c = omega (arith, c.requires)
 

@@ -1,4 +1,5 @@
 -- `blocked_factor::finish_triangle` meets its contract. The loop's invariant: the rows before s are finished, and their columns judged by their pivots. The
+-- measure is what is left of the columns. Assumes nothing.
 use Prim.Native.Nat.{◌+◌, ◌-◌, ◌≤◌}
 use native.Mathlib.Nat.{le_refl}
 use native.Mathlib.Omega.{arith}
@@ -10,7 +11,6 @@ use Rattle.blocked_factor.proofs.BlockRows.{row_mono}
 use Rattle.blocked_factor.proofs.Finishing.{triangle_none, triangle_next}
 use Rattle.blocked_factor.proofs.finish_triangle.Goals as goal
 
--- measure is what is left of the columns. Assumes nothing.
 pub loop-s-init : goal.loop-s-init
 loop-s-init c = (le_refl _, omega (arith, c.requires), triangle_none _ _ _ _ _ _ _)
 

@@ -1,4 +1,5 @@
 -- `blocked_factor::finish_triangle` meets its contract. The loop's invariant: the rows before s are finished, and their columns judged by their pivots. The
+-- measure is what is left of the columns. Assumes nothing.
 use Prim.Native.Nat.{◌+◌, ◌-◌, ◌≤◌}
 use native.Mathlib.Nat.{le_refl}
 use native.Mathlib.Omega.{arith}

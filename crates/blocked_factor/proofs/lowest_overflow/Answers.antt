@@ -1,4 +1,5 @@
 -- `blocked_factor::lowest_overflow` meets its contract. The loop's invariant: the columns before s are finite. The measure is what is left of the columns.
+-- Assumes nothing.
 use Prim.Native.Nat.{ℕ, ◌-◌, ◌≤◌, ◌<◌}
 use native.Mathlib.Nat.{le_refl}
 use native.Mathlib.Omega.{arith}
@@ -11,7 +12,6 @@ use Rattle.blocked_factor.specs.BlockColumns.{column_finite}
 use Rattle.blocked_factor.proofs.BlockVerdicts.{columns_finite}
 use Rattle.blocked_factor.proofs.lowest_overflow.Goals as goal
 
--- Assumes nothing.
 pub place_in_block-size-requires : goal.place_in_block-size-requires
 place_in_block-size-requires c = omega (arith, c.requires)
 

@@ -1,4 +1,5 @@
 -- `blocked_factor::lowest_overflow` meets its contract. The loop's invariant: the columns before s are finite. The measure is what is left of the columns.
+-- Assumes nothing.
 use Prim.Native.Nat.{ℕ, ◌-◌, ◌≤◌, ◌<◌}
 use native.Mathlib.Nat.{le_refl}
 use native.Mathlib.Omega.{arith}

@@ -1,4 +1,5 @@
 -- `checks::clear` meets its contract. The loop's invariant: the first p values are +0, and the rest are as they were. The measure is what is left
+-- of the length. Assumes nothing.
 use Prim.Native.Nat.{ℕ, zero, suc, ◌+◌, ◌<◌}
 use native.Mathlib.Numerals.{add-one}
 use native.Mathlib.Omega.{arith}
@@ -9,8 +10,6 @@ use lib.Seq.{drop-length}
 use lib.Ieee.{Float, of_bits}
 use Rattle.binary64.specs.Kinds.{zero64}
 use Rattle.checks.proofs.clear.Goals as goal
-
--- of the length. Assumes nothing.
 
 -- `fill_more` of borrow.Author.Fill is of numbers alone
 module _ {A : Type 0} (v : A) where

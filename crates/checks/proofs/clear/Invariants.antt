@@ -1,4 +1,5 @@
 -- `checks::clear` meets its contract. The loop's invariant: the first p values are +0, and the rest are as they were. The measure is what is left
+-- of the length. Assumes nothing.
 use Prim.Native.Nat.{◌-◌, ◌≤◌}
 use mathlib.Core.Path.{◌≡◌}
 use mathlib.Core.List.{◌++◌}

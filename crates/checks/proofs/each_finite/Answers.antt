@@ -1,4 +1,5 @@
 -- `checks::each_finite` meets its contract. The loop's invariant: `passed` says whether the first k values are finite. The measure is what is left of
+-- the length. Assumes nothing.
 use native.Mathlib.Omega.{arith}
 use mathlib.Core.Path.{refl, ap, ◌∙◌}
 use lib.Seq.{take_all}
@@ -8,7 +9,6 @@ use Rattle.calls.specs.Sequences.{all}
 use Rattle.calls.proofs.Sequences.{all_take}
 use Rattle.checks.proofs.each_finite.Goals as goal
 
--- the length. Assumes nothing.
 pub loop-k-init : goal.loop-k-init
 unfolding all
 loop-k-init c = (omega arith, refl)

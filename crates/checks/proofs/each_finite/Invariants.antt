@@ -1,4 +1,5 @@
 -- `checks::each_finite` meets its contract. The loop's invariant: `passed` says whether the first k values are finite. The measure is what is left of
+-- the length. Assumes nothing.
 use Prim.Native.Nat.{◌-◌, ◌≤◌}
 use mathlib.Core.Path.{◌≡◌}
 use lib.ListN.{length, take}

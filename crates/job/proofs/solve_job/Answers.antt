@@ -1,4 +1,5 @@
 -- `job::solve_job` meets its contract. A refusal of 7 or 8 is the job's verdict; else it is the pipeline's, with work memory lent from an array of zeros.
+-- Assumes nothing.
 use Prim.Native.Nat.{◌≤◌}
 use native.Mathlib.Omega.{arith}
 use mathlib.Core.Path.{◌≡◌}
@@ -9,7 +10,6 @@ use Rattle.job.proofs.Listings.{ended_as, refused_by_7, refused_by_8, job_ran, w
 use borrow.Author.Rules.{rules}
 use Rattle.job.proofs.solve_job.Goals as goal
 
--- Assumes nothing.
 pub returns-then-checked-ne0 : goal.returns-then-checked-ne0
 returns-then-checked-ne0 c = refused_by_7 _ _ _ _ c.if-checked-ne0.true c.check_finite-checked.ensures
 

@@ -1,10 +1,10 @@
 -- `kernels::packed_places8` meets its contract. The loop's invariant: the first k places are stored. The measure is the number of places
+-- left. Assumes nothing.
 use mathlib.Core.Path.{refl}
 use native.Mathlib.Omega.{arith}
 use Rattle.kernels.proofs.Loops.{stored_none, stored_next}
 use Rattle.kernels.proofs.packed_places8.Goals as goal
 
--- left. Assumes nothing.
 pub loop-k-init : goal.loop-k-init
 loop-k-init c = (omega arith, refl, stored_none 0 _ _)
 

@@ -1,4 +1,5 @@
 -- `kernels::packed_places8` meets its contract. The loop's invariant: the first k places are stored. The measure is the number of places
+-- left. Assumes nothing.
 use mathlib.Core.Path.{◌≡◌}
 use Prim.Native.Nat.{◌+◌, ◌-◌, ◌≤◌}
 use lib.ListN.{length}

@@ -1,4 +1,5 @@
 -- `strike::keep` meets its contract. The loop's invariant: q unknowns of the list are below u, and the others below u stand in front. The measure is the number
+-- of unknowns left. Assumes nothing.
 use Prim.Native.Nat.{ℕ, ◌+◌, ◌-◌, ◌≤◌, ◌<◌}
 use native.Mathlib.Numerals.{add-one}
 use native.Mathlib.Omega.{arith}
@@ -15,8 +16,6 @@ use Rattle.calls.specs.Strikes.{kept}
 use Rattle.strike.proofs.Selections.{contains_at, passing_pass, passing_fail}
 use Rattle.strike.proofs.Strikes.{Listed, rule20_accepted, Between, get_d_any, not_listed, kept_count, length_kept}
 use Rattle.strike.proofs.keep.Goals as goal
-
--- of unknowns left. Assumes nothing.
 
 -- ---- a turn
 

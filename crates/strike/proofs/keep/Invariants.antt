@@ -1,4 +1,5 @@
 -- `strike::keep` meets its contract. The loop's invariant: q unknowns of the list are below u, and the others below u stand in front. The measure is the number
+-- of unknowns left. Assumes nothing.
 use Prim.Native.Nat.{ℕ, ◌+◌, ◌-◌, ◌≤◌, ◌<◌}
 use native.Mathlib.Numerals.{add-one}
 use native.Mathlib.Omega.{arith}

@@ -1,4 +1,5 @@
 -- `strike::move_columns` meets its contract. The loop's invariant: the columns before c stand where they go, the others where they stood, and `to` is where column
+-- c goes. The measure is the number of columns left. Assumes nothing.
 use Prim.Native.Nat.{◌+◌, ◌-◌, ◌≤◌}
 use native.Mathlib.Omega.{arith}
 use mathlib.Core.Path.{◌≡◌, refl, sym, ap, ◌∙◌}
@@ -10,7 +11,6 @@ use Rattle.shape.proofs.Bounds.{triangle_le, block_start_le}
 use Rattle.strike.proofs.Columns.{row_le_place, order_le, entry_of, ColumnsMoved, none_moved, all_moved, next_start, column_ahead, column_moved}
 use Rattle.strike.proofs.move_columns.Goals as goal
 
--- c goes. The measure is the number of columns left. Assumes nothing.
 pub loop-c-init : goal.loop-c-init
 loop-c-init c = (omega arith, sym (block_start_zero _), refl, none_moved _ _ _)
 

@@ -1,4 +1,5 @@
 -- `strike::move_columns` meets its contract. The loop's invariant: the columns before c stand where they go, the others where they stood, and `to` is where column
+-- c goes. The measure is the number of columns left. Assumes nothing.
 use Prim.Native.Nat.{◌+◌, ◌-◌, ◌≤◌}
 use native.Mathlib.Omega.{arith}
 use mathlib.Core.Path.{◌≡◌, refl, sym, ap, ◌∙◌}

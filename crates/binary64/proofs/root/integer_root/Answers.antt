@@ -1,4 +1,5 @@
 -- `binary64::root::integer_root` meets its contract. The invariant of its loop: i digits are found, and i is at most 54. The measure is how many are not.
+-- Assumes nothing.
 use mathlib.Core.Logic.{⊎_elim}
 use mathlib.Core.Path.{◌≡◌, subst}
 use Prim.Native.Nat.{ℕ, ◌-◌, ◌^◌, ◌≤◌, ◌<◌}
@@ -7,7 +8,6 @@ use Rattle.binary64.proofs.IntegerRoots.{Digits, digit_zero, digit_one, digits_n
 use Rattle.binary64.proofs.root.integer_root.Goals as goal
 use Rattle.binary64.proofs.root.integer_root.Goals.{then-remainder-root, else-remainder-root}
 
--- Assumes nothing.
 root_lt : (c : goal.In-loop-i) → c.loop-i.root < 2 ^ 53
 root_lt c =
     digits_lt c.args.s c.loop-i.i c.loop-i.rest c.loop-i.root c.loop-i.remainder

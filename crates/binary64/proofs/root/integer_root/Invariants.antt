@@ -1,4 +1,5 @@
 -- `binary64::root::integer_root` meets its contract. The invariant of its loop: i digits are found, and i is at most 54. The measure is how many are not.
+-- Assumes nothing.
 use mathlib.Core.Logic.{⊎_elim}
 use mathlib.Core.Path.{◌≡◌, subst}
 use Prim.Native.Nat.{ℕ, ◌-◌, ◌^◌, ◌≤◌, ◌<◌}

@@ -1,4 +1,5 @@
 -- `binary64::root::normalise` meets its contract. Where the pattern is a subnormal's the fraction is the pattern itself, and its leading zeros are from 12
+-- to 63. Assumes nothing.
 use borrow.Enum.Refused.{opened}
 use mathlib.Core.Path.{◌≡◌, sym, ◌∙◌, subst}
 use mathlib.Core.Logic.{◌⊎◌, inl, inr}
@@ -19,7 +20,6 @@ use Rattle.binary64.proofs.KindLaws.{other_arm}
 use Rattle.binary64.proofs.Normalising.{shift, zeros_range, subnormal_range, normal_range, normalised_normal, normalised_subnormal}
 use Rattle.binary64.proofs.root.normalise.Goals as goal
 
--- to 63. Assumes nothing.
 module _ (p : ℕ) (pre : PositiveFinite p) where
   -- the first arm
   module _ (e : kind_of_bits p ≡ Subnormal) where

@@ -1,4 +1,5 @@
 -- `binary64::root::root_of_bits` meets its contract: the shift loses nothing, so the integer root is that of `radicand`, and `rounded-found` says the rest.
+-- Assumes nothing.
 use mathlib.Core.Path.{◌≡◌, sym, subst}
 use Prim.Native.Nat.{ℕ, ◌*◌, ◌%◌, ◌^◌, ◌<◌}
 use native.Mathlib.Nat.{mod-eq_of_lt}
@@ -8,7 +9,6 @@ use Rattle.binary64.specs.RootSteps.{Normalised, IntegerRoot}
 use Rattle.binary64.proofs.Rounding.{radicand, even_range, root_range, rounded_found}
 use Rattle.binary64.proofs.root.root_of_bits.Goals as goal
 
--- Assumes nothing.
 shifted_lt : (p s x : ℕ) → Normalised p s x → s * 2 ^ (x % 2) < 2 ^ 54
 shifted_lt p s x n = omega (arith, (even_range s x n.significand_ge n.significand_lt).1)
 

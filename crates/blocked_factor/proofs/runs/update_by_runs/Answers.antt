@@ -1,4 +1,5 @@
 -- `blocked_factor::runs::update_by_runs` meets its contract. The invariant of its loop: the products of the columns before k are subtracted. Assumes
+-- nothing.
 use Prim.Native.Nat.{◌+◌, ◌-◌, ◌≤◌}
 use native.Mathlib.Omega.{arith}
 use mathlib.Core.Path.{◌≡◌, refl, ◌∙◌}
@@ -11,7 +12,6 @@ use Rattle.blocked_factor.specs.BlockSteps.{row_of}
 use Rattle.blocked_factor.proofs.EarlierBlocks.{run_before, earlier_next, earlier_none, rest_whole}
 use Rattle.blocked_factor.proofs.runs.update_by_runs.Goals as goal
 
--- nothing.
 pub block_start-requires : goal.block_start-requires
 block_start-requires c = omega (arith, c.requires.block_at.order, c.requires.block_at.inside)
 

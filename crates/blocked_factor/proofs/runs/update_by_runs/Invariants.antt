@@ -1,4 +1,5 @@
 -- `blocked_factor::runs::update_by_runs` meets its contract. The invariant of its loop: the products of the columns before k are subtracted. Assumes
+-- nothing.
 use Prim.Native.Nat.{◌+◌, ◌-◌, ◌≤◌}
 use native.Mathlib.Omega.{arith}
 use mathlib.Core.Path.{◌≡◌, refl, ◌∙◌}

@@ -1,4 +1,5 @@
 -- `checks::rules::check_diagonal` meets its contract. The loop's invariant: no column from k on and before j refuses. The measure is the number of columns left.
+-- Each place read is below the triangle's length, as both layouts are bijections. Assumes nothing.
 use Prim.Native.Nat.{ℕ, ◌+◌, ◌-◌, ◌≤◌, ◌<◌}
 use native.Mathlib.Omega.{arith}
 use mathlib.Core.Path.{◌≡◌, refl, sym, ap, ◌∙◌, subst}
@@ -20,7 +21,6 @@ use Rattle.calls.proofs.Rearranging.{place_bijection}
 use Rattle.checks.proofs.rules.check_diagonal.Invariants.{from}
 use Rattle.checks.proofs.rules.check_diagonal.Goals as goal
 
--- Each place read is below the triangle's length, as both layouts are bijections. Assumes nothing.
 on_diagonal : (n j : ℕ) → j < n → Entry n j j
 on_diagonal n j h = record { lower = omega arith; inside = h }
 

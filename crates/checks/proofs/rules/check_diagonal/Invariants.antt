@@ -1,4 +1,5 @@
 -- `checks::rules::check_diagonal` meets its contract. The loop's invariant: no column from k on and before j refuses. The measure is the number of columns left.
+-- Each place read is below the triangle's length, as both layouts are bijections. Assumes nothing.
 use Prim.Native.Nat.{ℕ, ◌+◌, ◌-◌, ◌≤◌}
 use mathlib.Core.Path.{◌≡◌}
 use mathlib.Core.List.{List}

@@ -1,4 +1,5 @@
 -- `checks::rules::check_rhs` meets its contract: the tests that led to each return decide the rules. The product is below 2^64 as both factors are
+-- bounded. Assumes nothing.
 use Prim.Native.Nat.{◌*◌, ◌≤◌}
 use native.Mathlib.Omega.{arith}
 use mathlib.Core.Path.{◌≡◌}
@@ -11,7 +12,6 @@ use Rattle.calls.specs.Refusals.{first_refusal, rule5, rule6}
 use Rattle.calls.proofs.Judging.{not_leb}
 use Rattle.checks.proofs.rules.check_rhs.Goals as goal
 
--- bounded. Assumes nothing.
 pub returns-then-not-rhs_in_bounds : goal.returns-then-not-rhs_in_bounds
 unfolding first_refusal rule5 rule6
 returns-then-not-rhs_in_bounds c =

@@ -1,4 +1,5 @@
 -- `checks::rules::check_solver` meets its contract: the rules are judged in five parts, and the first part that refuses decides. What the later parts
+-- require, the rules of the sizes have settled. Assumes nothing.
 use Prim.Native.Nat.{ℕ}
 use native.Mathlib.Omega.{arith}
 use mathlib.Core.Path.{◌≡◌, sym, ◌∙◌}

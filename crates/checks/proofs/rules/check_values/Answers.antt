@@ -1,4 +1,5 @@
 -- `checks::rules::check_values` meets its contract. The loop's invariant: no position before p refuses; as some value is not finite, p is below the
+-- length. The measure is what is left of the length. Assumes nothing.
 use Prim.Native.Nat.{ℕ, zero, suc, ◌+◌, ◌≤◌, ◌<◌}
 use native.Mathlib.Omega.{arith}
 use native.Mathlib.Decide.{dec_lt}
@@ -15,8 +16,6 @@ use Rattle.calls.proofs.Refusals.{finite_rule_lem}
 use Rattle.calls.proofs.Judging.{lowest_next, lowest_found}
 use Rattle.calls.proofs.CheckLaws.{finite_at, finite_accepted}
 use Rattle.checks.proofs.rules.check_values.Goals as goal
-
--- length. The measure is what is left of the length. Assumes nothing.
 
 -- ---- a turn
 

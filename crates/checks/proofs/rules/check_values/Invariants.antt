@@ -1,4 +1,5 @@
 -- `checks::rules::check_values` meets its contract. The loop's invariant: no position before p refuses; as some value is not finite, p is below the
+-- length. The measure is what is left of the length. Assumes nothing.
 use Prim.Native.Nat.{◌-◌, ◌<◌}
 use mathlib.Core.Path.{◌≡◌}
 use lib.ListN.{length}

@@ -1,4 +1,5 @@
 -- `kernels::columns::step_columns` meets its contract. The invariant of its loop: the first k columns, whole block columns, are done, and x is the
+-- place of row i in the next one. Assumes nothing.
 use Prim.Native.Nat.{◌+◌, ◌-◌, ◌*◌, ◌≤◌}
 use native.Mathlib.Nat.{mul-le-mul}
 use native.Mathlib.Omega.{arith}
@@ -12,7 +13,6 @@ use Rattle.kernels.proofs.Parts.{filled_none}
 use Rattle.kernels.proofs.Runs.{square_ge, row_inside, next_place, row_turn, columns_next}
 use Rattle.kernels.proofs.columns.step_columns.Goals as goal
 
--- place of row i in the next one. Assumes nothing.
 pub overflow_mul-step : goal.overflow_mul-step
 overflow_mul-step c = omega (arith, c.requires.rows_below.block_high)
 

@@ -1,4 +1,5 @@
 -- `kernels::columns::step_columns` meets its contract. The invariant of its loop: the first k columns, whole block columns, are done, and x is the
+-- place of row i in the next one. Assumes nothing.
 use Prim.Native.Nat.{◌-◌, ◌*◌, ◌≤◌, ◌<◌}
 use mathlib.Core.Path.{◌≡◌}
 use lib.Ieee.{nan}

@@ -1,4 +1,5 @@
 -- `kernels::tiles::reduce_run` meets its contract. The invariant of its loop: every value is less the products of the first k columns, whole block
+-- columns, and x is the place of row i in the next one. Assumes nothing.
 use Prim.Native.Nat.{◌+◌, ◌-◌, ◌*◌, ◌≤◌}
 use native.Mathlib.Nat.{mul-le-mul, mul-le-mul_left}
 use native.Mathlib.Omega.{arith}
@@ -10,7 +11,6 @@ use Rattle.kernels.proofs.Products.{minus_none}
 use Rattle.kernels.proofs.Runs.{square_ge, row_inside, next_place, row_begins, row_turn, run_next}
 use Rattle.kernels.proofs.tiles.reduce_run.Goals as goal
 
--- columns, and x is the place of row i in the next one. Assumes nothing.
 pub overflow_mul-step : goal.overflow_mul-step
 overflow_mul-step c = omega (arith, c.requires.rows_below.block_high)
 

@@ -1,4 +1,5 @@
 -- `kernels::tiles::reduce_run` meets its contract. The invariant of its loop: every value is less the products of the first k columns, whole block
+-- columns, and x is the place of row i in the next one. Assumes nothing.
 use Prim.Native.Nat.{◌+◌, ◌-◌, ◌*◌, ◌≤◌, ◌<◌}
 use mathlib.Core.Path.{◌≡◌}
 use Rattle.shape.specs.Places.{block_of}

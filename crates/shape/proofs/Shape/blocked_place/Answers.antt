@@ -1,4 +1,5 @@
 -- `shape::Shape::blocked_place` meets its contract: the block column begins at or before column j, and the sum is the entry's place,
+-- which is below triangle n. Assumes nothing.
 use native.Mathlib.Omega.{arith}
 use borrow.Author.Rules.{rules}
 use Rattle.shape.proofs.Blocks.{block_of_le, blocked_place_block}
@@ -6,7 +7,6 @@ use Rattle.shape.proofs.Bijections.{blocked_bijection}
 use Rattle.shape.proofs.Bounds.{triangle_le}
 use Rattle.shape.proofs.Shape.blocked_place.Goals as goal
 
--- which is below triangle n. Assumes nothing.
 pub block_width-w-requires : goal.block_width-w-requires
 block_width-w-requires c =
     let args = c.args in

@@ -1,4 +1,5 @@
 -- `shape::Shape::packed_place` meets its contract: the order is bounded, so the product fits, and the sum is the entry's place, which
+-- is below triangle n. Assumes nothing.
 use mathlib.Core.Path.{refl}
 use native.Mathlib.Omega.{arith}
 use borrow.Author.Rules.{rules}
@@ -7,7 +8,6 @@ use Rattle.shape.proofs.Bijections.{packed_bijection}
 use Rattle.shape.proofs.Bounds.{triangle_le, product_fits}
 use Rattle.shape.proofs.Shape.packed_place.Goals as goal
 
--- is below triangle n. Assumes nothing.
 pub overflow_mul-result-2 : goal.overflow_mul-result-2
 overflow_mul-result-2 c = product_fits _ _ (omega arith) (omega arith)
 

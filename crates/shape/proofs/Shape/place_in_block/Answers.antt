@@ -1,4 +1,5 @@
 -- `shape::Shape::place_in_block` meets its contract: the row is bounded, and with it each product and the place, which is at most
+-- triangle r + s. Assumes nothing.
 use Prim.Native.Nat.{ℕ, ◌≤◌}
 use native.Mathlib.Omega.{arith}
 use borrow.Author.Rules.{rules}
@@ -9,7 +10,6 @@ use Rattle.shape.proofs.Rows.{place_in_block_le}
 use Rattle.shape.proofs.Bounds.{triangle_le, product_fits}
 use Rattle.shape.proofs.Shape.place_in_block.Goals as goal
 
--- triangle r + s. Assumes nothing.
 place_le : (w r s : ℕ) → r ≤ max_order → s ≤ r → place_in_block w r s ≤ 8006000
 place_le w r s row column = omega (arith, place_in_block_le w r s, triangle_le r row)
 

@@ -1,4 +1,5 @@
 -- `solve::blocked::backward_columns16` meets its contract. The invariant of its loop: the products of the last k rows are subtracted, and row
+-- end − k has its entry in column s at `at`. Assumes nothing.
 use Prim.Native.Nat.{◌+◌, ◌-◌, ◌≤◌}
 use native.Mathlib.Omega.{arith}
 use mathlib.Core.Path.{◌≡◌, sym, ap, ◌∙◌}
@@ -10,7 +11,6 @@ use Rattle.solve.proofs.BlockPlaces.{room_part, next_up}
 use Rattle.solve.proofs.BlockColumns.{Less16, less16_next, columns16_done}
 use Rattle.solve.proofs.blocked.backward_columns16.Goals as goal
 
--- end − k has its entry in column s at `at`. Assumes nothing.
 pub place_in_block-at-requires : goal.place_in_block-at-requires
 place_in_block-at-requires c = record { r_le_max_order = omega arith; s_le_r = omega arith }
 

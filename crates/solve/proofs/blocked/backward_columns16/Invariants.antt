@@ -1,4 +1,5 @@
 -- `solve::blocked::backward_columns16` meets its contract. The invariant of its loop: the products of the last k rows are subtracted, and row
+-- end − k has its entry in column s at `at`. Assumes nothing.
 use Prim.Native.Nat.{◌+◌, ◌-◌, ◌≤◌}
 use native.Mathlib.Omega.{arith}
 use mathlib.Core.Path.{◌≡◌, sym, ap, ◌∙◌}

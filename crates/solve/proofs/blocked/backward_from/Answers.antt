@@ -1,4 +1,5 @@
 -- `solve::blocked::backward_from` meets its contract: the rows after the first block column are finished by the trailing triangle after it. Assumes
+-- nothing.
 use Prim.Native.Nat.{◌+◌, ◌-◌, ◌≤◌, ◌<◌}
 use native.Mathlib.Omega.{arith}
 use mathlib.Core.Path.{◌≡◌, sym, ap, ◌∙◌}
@@ -12,7 +13,6 @@ use Rattle.solve.proofs.Substitution.{length_returned}
 use Rattle.solve.proofs.BlockTurns.{trailing_fits, trailing_ends, trailing_column, backward_joined}
 use Rattle.solve.proofs.blocked.backward_from.Goals as goal
 
--- nothing.
 pub backward_whole-requires : goal.backward_whole-requires
 backward_whole-requires c = record { blocks_from = c.requires.blocks_from; fact = inr (sym c.block_of-c.ensures ∙ c.if-c-k.true) }
 

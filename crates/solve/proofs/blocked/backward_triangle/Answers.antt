@@ -1,4 +1,5 @@
 -- `solve::blocked::backward_triangle` meets its contract. The invariant of its loop: the rows from r on are finished, their products are taken from
+-- those before r, and `at` is where row r begins. Assumes nothing.
 use Prim.Native.Nat.{◌+◌, ◌-◌, ◌≤◌, ◌<◌}
 use native.Mathlib.Omega.{arith}
 use mathlib.Core.Path.{◌≡◌, refl}
@@ -11,7 +12,6 @@ use Rattle.solve.proofs.BlockColumns.{row_inside_up}
 use Rattle.solve.proofs.Triangles.{TakenFrom, taken_none, taken_all}
 use Rattle.solve.proofs.blocked.backward_triangle.Goals as goal
 
--- those before r, and `at` is where row r begins. Assumes nothing.
 pub loop-r-init : goal.loop-r-init
 loop-r-init c =
     let a = c.args in

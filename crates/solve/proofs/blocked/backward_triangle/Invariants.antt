@@ -1,4 +1,5 @@
 -- `solve::blocked::backward_triangle` meets its contract. The invariant of its loop: the rows from r on are finished, their products are taken from
+-- those before r, and `at` is where row r begins. Assumes nothing.
 use Prim.Native.Nat.{◌+◌, ◌-◌, ◌≤◌, ◌<◌}
 use native.Mathlib.Omega.{arith}
 use mathlib.Core.Path.{◌≡◌, refl}

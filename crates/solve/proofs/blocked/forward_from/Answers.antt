@@ -1,4 +1,5 @@
 -- `solve::blocked::forward_from` meets its contract: what the first block column leaves is the substitution with the trailing triangle after it. Assumes
+-- nothing.
 use Prim.Native.Nat.{◌+◌, ◌≤◌, ◌<◌}
 use native.Mathlib.Omega.{arith}
 use mathlib.Core.Path.{◌≡◌, sym, ap, ◌∙◌}
@@ -11,7 +12,6 @@ use Rattle.shape.proofs.Blocks.{block_of_le}
 use Rattle.solve.proofs.BlockTurns.{trailing_fits, trailing_ends, trailing_column, forward_joined}
 use Rattle.solve.proofs.blocked.forward_from.Goals as goal
 
--- nothing.
 pub forward_whole-requires : goal.forward_whole-requires
 forward_whole-requires c = record { blocks_from = c.requires.blocks_from; fact = inr (sym c.block_of-c.ensures ∙ c.if-c-k.true) }
 

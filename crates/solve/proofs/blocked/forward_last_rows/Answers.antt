@@ -1,4 +1,5 @@
 -- `solve::blocked::forward_last_rows` meets its contract. The invariant of its loop: the products are subtracted from the rows before r, and `at` is
+-- where row r begins. Assumes nothing.
 use Prim.Native.Nat.{◌+◌, ◌-◌, ◌≤◌}
 use native.Mathlib.Omega.{arith}
 use mathlib.Core.Path.{◌≡◌}
@@ -11,7 +12,6 @@ use Rattle.solve.proofs.BlockPlaces.{room_under, values_le, next_under}
 use Rattle.solve.proofs.BlockColumns.{under_row}
 use Rattle.solve.proofs.blocked.forward_last_rows.Goals as goal
 
--- where row r begins. Assumes nothing.
 pub place_in_block-at-requires : goal.place_in_block-at-requires
 place_in_block-at-requires c = record { r_le_max_order = omega arith; s_le_r = omega arith }
 

@@ -1,4 +1,5 @@
 -- `solve::blocked::forward_last_rows` meets its contract. The invariant of its loop: the products are subtracted from the rows before r, and `at` is
+-- where row r begins. Assumes nothing.
 use Prim.Native.Nat.{◌+◌, ◌-◌, ◌≤◌}
 use native.Mathlib.Omega.{arith}
 use mathlib.Core.Path.{◌≡◌}

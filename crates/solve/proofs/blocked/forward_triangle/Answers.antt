@@ -1,4 +1,5 @@
 -- `solve::blocked::forward_triangle` meets its contract. The invariant of its loop: the rows before r are finished; row r begins at `at`. Assumes
+-- nothing.
 use Prim.Native.Nat.{◌+◌, ◌-◌, ◌≤◌, ◌<◌}
 use native.Mathlib.Nat.{add-zero}
 use native.Mathlib.Omega.{arith}
@@ -12,7 +13,6 @@ use Rattle.solve.proofs.BlockPlaces.{room, room_inside, values_le, next_inside}
 use Rattle.solve.proofs.BlockColumns.{triangle_row}
 use Rattle.solve.proofs.blocked.forward_triangle.Goals as goal
 
--- nothing.
 pub place_in_block-at-requires : goal.place_in_block-at-requires
 place_in_block-at-requires c = record { r_le_max_order = omega arith; s_le_r = omega arith }
 

@@ -1,4 +1,5 @@
 -- `solve::blocked::forward_triangle` meets its contract. The invariant of its loop: the rows before r are finished; row r begins at `at`. Assumes
+-- nothing.
 use Prim.Native.Nat.{◌+◌, ◌-◌, ◌≤◌, ◌<◌}
 use native.Mathlib.Nat.{add-zero}
 use native.Mathlib.Omega.{arith}

@@ -1,4 +1,5 @@
 -- `solve::plain::backward_triangle` meets its contract. The invariant of its loop: the rows from r on are finished, the others as before. Assumes
+-- nothing.
 use Prim.Native.Nat.{◌+◌, ◌-◌, ◌≤◌}
 use native.Mathlib.Omega.{arith}
 use mathlib.Core.Path.{◌≡◌}
@@ -9,7 +10,6 @@ use Rattle.solve.proofs.Packed.{column_room, triangle_turn}
 use Rattle.solve.proofs.Triangles.{BackwardRows, backward_none, backward_all}
 use Rattle.solve.proofs.plain.backward_triangle.Goals as goal
 
--- nothing.
 pub loop-r-init : goal.loop-r-init
 loop-r-init c = (omega arith, backward_none _ c.args.w c.args.work.now)
 

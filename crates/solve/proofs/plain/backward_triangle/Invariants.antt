@@ -1,4 +1,5 @@
 -- `solve::plain::backward_triangle` meets its contract. The invariant of its loop: the rows from r on are finished, the others as before. Assumes
+-- nothing.
 use Prim.Native.Nat.{◌+◌, ◌-◌, ◌≤◌}
 use native.Mathlib.Omega.{arith}
 use mathlib.Core.Path.{◌≡◌}

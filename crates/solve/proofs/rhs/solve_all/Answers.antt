@@ -1,4 +1,5 @@
 -- `solve::rhs::solve_all` meets its contract. The invariant of its loop: the first q right-hand sides pass and hold their solutions, the others are
+-- as they were. The measure is what is left of m. Assumes nothing.
 use Prim.Native.Nat.{◌+◌, ◌-◌, ◌*◌, ◌≤◌}
 use native.Mathlib.Omega.{arith}
 use mathlib.Core.Path.{◌≡◌, refl, ap, ◌∙◌, subst}
@@ -10,7 +11,6 @@ use Rattle.solve.specs.Solving.{factor_of}
 use Rattle.solve.proofs.RightSides.{judge_rhs, none_solved, length_solutions, next_within, turn_kept, turn_refused, turn_solved, all_solved, next_at}
 use Rattle.solve.proofs.rhs.solve_all.Goals as goal
 
--- as they were. The measure is what is left of m. Assumes nothing.
 pub loop-q-init : goal.loop-q-init
 unfolding lowest_refusal
 loop-q-init c = (

@@ -1,4 +1,5 @@
 -- `solve::runs::forward_eights` meets its contract. The invariant of its loop: the products are subtracted from the rows before r, and eights are left.
+-- Assumes nothing.
 use Prim.Native.Nat.{◌+◌, ◌-◌, ◌%◌, ◌≤◌}
 use native.Mathlib.Omega.{arith}
 use mathlib.Core.Path.{◌≡◌}
@@ -8,7 +9,6 @@ use Rattle.solve.proofs.Rows.{replaced_none, rows_join}
 use Rattle.solve.proofs.RunTurns.{run_beside}
 use Rattle.solve.proofs.runs.forward_eights.Goals as goal
 
--- Assumes nothing.
 pub loop-r-init : goal.loop-r-init
 loop-r-init c =
     let a = c.args in

@@ -1,4 +1,5 @@
 -- `solve::runs::forward_eights` meets its contract. The invariant of its loop: the products are subtracted from the rows before r, and eights are left.
+-- Assumes nothing.
 use Prim.Native.Nat.{◌+◌, ◌-◌, ◌%◌, ◌≤◌}
 use native.Mathlib.Omega.{arith}
 use mathlib.Core.Path.{◌≡◌}

@@ -1,4 +1,5 @@
 -- `strike::moves::move_column` meets its contract. The loop's invariant: the values of the first k rows are moved. The measure is the number of rows left.
+-- Assumes nothing.
 use Prim.Native.Nat.{◌+◌, ◌-◌, ◌≤◌}
 use native.Mathlib.Omega.{arith}
 use mathlib.Core.Path.{◌≡◌}
@@ -10,7 +11,6 @@ use Rattle.strike.specs.Rows.{rows_at}
 use Rattle.strike.proofs.Rows.{ahead_part, moved_next}
 use Rattle.strike.proofs.moves.move_column.Goals as goal
 
--- Assumes nothing.
 pub loop-k-init : goal.loop-k-init
 loop-k-init c = (omega arith, filled_none nan _ _ _)
 

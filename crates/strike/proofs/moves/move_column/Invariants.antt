@@ -1,4 +1,5 @@
 -- `strike::moves::move_column` meets its contract. The loop's invariant: the values of the first k rows are moved. The measure is the number of rows left.
+-- Assumes nothing.
 use Prim.Native.Nat.{◌+◌, ◌-◌, ◌≤◌}
 use native.Mathlib.Omega.{arith}
 use mathlib.Core.Path.{◌≡◌}

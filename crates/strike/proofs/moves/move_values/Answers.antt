@@ -1,4 +1,5 @@
 -- `strike::moves::move_values` meets its contract. The loop's invariant: the first k values stand where they go, and all else is as it was; so is the next
+-- value to be read, which stands at the place that is written next or behind it. The measure is the number of values left. Assumes nothing.
 use Prim.Native.Nat.{◌+◌, ◌-◌, ◌≤◌, ◌<◌}
 use native.Mathlib.Omega.{arith}
 use mathlib.Core.Path.{◌≡◌}
@@ -9,7 +10,6 @@ use Rattle.kernels.proofs.Parts.{filled_none, filled_next}
 use Rattle.strike.specs.Rows.{rows_at}
 use Rattle.strike.proofs.moves.move_values.Goals as goal
 
--- value to be read, which stands at the place that is written next or behind it. The measure is the number of values left. Assumes nothing.
 pub loop-k-init : goal.loop-k-init
 loop-k-init c = (omega arith, filled_none nan _ _ _)
 

@@ -1,4 +1,5 @@
 -- `strike::moves::move_values` meets its contract. The loop's invariant: the first k values stand where they go, and all else is as it was; so is the next
+-- value to be read, which stands at the place that is written next or behind it. The measure is the number of values left. Assumes nothing.
 use Prim.Native.Nat.{◌+◌, ◌-◌, ◌≤◌, ◌<◌}
 use native.Mathlib.Omega.{arith}
 use mathlib.Core.Path.{◌≡◌}

@@ -1,4 +1,5 @@
 -- `strike::rules::check_list` meets its contract. The loop's invariant: no position before p refuses, and `next` is one more than the unknown before p, or 0. The
+-- measure is the number of positions left. Assumes nothing.
 use Prim.Native.Nat.{ℕ, zero, suc, ◌+◌, ◌-◌, ◌≤◌, ◌<◌}
 use native.Mathlib.Numerals.{add-one}
 use native.Mathlib.Omega.{arith}
@@ -15,8 +16,6 @@ use Rattle.calls.specs.Refusals.{success, accepted, refusal, lowest_refusal, ris
 use Rattle.calls.proofs.Judging.{not_leb, lowest_next, lowest_found}
 use Rattle.strike.proofs.Strikes.{listed_at}
 use Rattle.strike.proofs.rules.check_list.Goals as goal
-
--- measure is the number of positions left. Assumes nothing.
 
 -- ---- the test of one position
 

@@ -1,4 +1,5 @@
 -- `strike::rules::check_list` meets its contract. The loop's invariant: no position before p refuses, and `next` is one more than the unknown before p, or 0. The
+-- measure is the number of positions left. Assumes nothing.
 use Prim.Native.Nat.{ℕ, zero, suc, ◌+◌, ◌-◌, ◌≤◌, ◌<◌}
 use native.Mathlib.Numerals.{add-one}
 use native.Mathlib.Omega.{arith}

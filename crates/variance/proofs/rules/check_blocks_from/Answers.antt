@@ -1,4 +1,5 @@
 -- `variance::rules::check_blocks_from` meets its contract. The invariant of its loop: the rows before i pass, and row i has its entry in column k at `from`.
+-- Assumes nothing.
 use Prim.Native.Nat.{◌+◌, ◌-◌, ◌≤◌, min}
 use native.Mathlib.Omega.{arith}
 use mathlib.Core.Path.{◌≡◌, sym, ap, ◌∙◌}
@@ -13,7 +14,6 @@ use Rattle.variance.specs.Parts.{finite_part}
 use Rattle.variance.proofs.ColumnParts.{RowsPassed, rows_start, RowTurn, row_turn, rows_end}
 use Rattle.variance.proofs.rules.check_blocks_from.Goals as goal
 
--- Assumes nothing.
 pub block_width-requires : goal.block_width-requires
 block_width-requires c =
     omega (arith, c.block_of-c.ensures, block_of_le c.args.shape.block c.args.k)

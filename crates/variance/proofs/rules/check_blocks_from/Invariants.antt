@@ -1,4 +1,5 @@
 -- `variance::rules::check_blocks_from` meets its contract. The invariant of its loop: the rows before i pass, and row i has its entry in column k at `from`.
+-- Assumes nothing.
 use Prim.Native.Nat.{◌+◌, ◌-◌, ◌≤◌, min}
 use native.Mathlib.Omega.{arith}
 use mathlib.Core.Path.{◌≡◌, sym, ap, ◌∙◌}

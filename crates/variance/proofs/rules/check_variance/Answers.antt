@@ -1,4 +1,5 @@
 -- `variance::rules::check_variance` meets its contract: the rules are judged in four parts, and the first part that refuses decides. What the later parts
+-- require, the rules of the sizes and 14 have settled. Assumes nothing.
 use native.Mathlib.Omega.{arith}
 use mathlib.Core.Path.{◌≡◌, sym, ap, ◌∙◌}
 use mathlib.Core.Bool.{true}
@@ -16,8 +17,6 @@ use Rattle.calls.proofs.Checks.{rule14_passes, size_rules}
 use Rattle.calls.proofs.CheckLaws.{rule14_refused, finite_alone, rule9_alone, SizesAccepted, sizes_accepted}
 use Rattle.calls.proofs.Variances.{late_rules, solver_blocks}
 use Rattle.variance.proofs.rules.check_variance.Goals as goal
-
--- require, the rules of the sizes and 14 have settled. Assumes nothing.
 
 -- ---- the parts, of the arguments
 
