@@ -7,11 +7,15 @@ use mathlib.Core.List.{List}
 use lib.ListN.{get_or}
 use lib.Ieee.{Float, nan}
 use Rattle.shape.specs.Bounds.{max_order}
-use Rattle.shape.specs.Places.{block_start, place_in_block}
+use Rattle.shape.specs.Places.{triangle, block_start, place_in_block}
 use Rattle.shape.proofs.Bounds.{block_start_le, triangle_le}
 use Rattle.shape.proofs.Rows.{place_in_block_row, place_in_block_lt, place_in_block_next_row_inside, place_in_block_next_row_under}
 use Rattle.solve.specs.declared.blocked.Trailing.{Trailing}
 use Rattle.solve.specs.Substitution.{block_entries}
+
+-- a block column begins in the matrix
+pub start_room : (n c at : ℕ) → n ≤ max_order → c ≤ n → at ≡ block_start n c → (at ≤ triangle n) × (triangle n ≤ 8002000)
+start_room n c at order le place = (omega (arith, block_start_le n c le), triangle_le n order)
 
 column_place : (w r s i : ℕ) → place_in_block w r s + i ≡ place_in_block w r (s + i)
 column_place w r s i = omega (arith, place_in_block_row w r s, place_in_block_row w r (s + i))

@@ -100,6 +100,10 @@ last_block n b c pos low le (inr e) = go (c / b) e
 
 -- ---- what is left, from column k on, of the block column that holds it
 
+-- column k is not its block column's first, and so it is not 0
+pub trailing_inside : (n b k first : ℕ) → (0 < k → k < n) → first ≡ block_of b k → (first ≡ k → ⊥) → k < n
+trailing_inside n b k first some held other = some (omega (arith, held, block_of_le b k))
+
 module _ (n b k : ℕ) (block : Trailing) (pos : 0 < b) (inside : k < n) (held : TrailingOf n b k block) where
   abbrev first : ℕ
   first = block_of b k

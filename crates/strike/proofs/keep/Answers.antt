@@ -1,21 +1,21 @@
--- `strike::keep` meets its contract. The loop's invariant: q unknowns of the list are below u, and the others below u stand in front. The measure is the number
--- of unknowns left. Assumes nothing.
+-- `strike::keep` meets its contract. Assumes nothing.
 use Prim.Native.Nat.{ℕ, ◌+◌, ◌-◌, ◌≤◌, ◌<◌}
 use native.Mathlib.Numerals.{add-one}
 use native.Mathlib.Omega.{arith}
 use native.Mathlib.Decide.{dec_lt}
 use mathlib.Core.Path.{◌≡◌, refl, sym, ap, ◌∙◌}
-use mathlib.Core.Logic.{◌≢◌, ⊎_elim}
+use mathlib.Core.Logic.{◌≢◌}
 use mathlib.Core.Bool.{not}
 use mathlib.Core.List.{List, [], ◌∷◌, ◌++◌}
-use borrow.Author.Rules.{rules}
 use lib.ListN.{length, get_or, set, take, length-set, get_or-eq_default}
 use lib.Seq.{take-suc-set}
 use Rattle.calls.specs.Sequences.{contains, passing}
+use Rattle.calls.specs.Refusals.{success, rule20}
 use Rattle.calls.specs.Strikes.{kept}
 use Rattle.strike.proofs.Selections.{contains_at, passing_pass, passing_fail}
 use Rattle.strike.proofs.Strikes.{Listed, rule20_accepted, Between, get_d_any, not_listed, kept_count, length_kept}
 use Rattle.strike.proofs.keep.Goals as goal
+use Rattle.strike.proofs.keep.Goals.{then-struck_at-u, else-struck_at-u}
 
 -- ---- a turn
 
@@ -70,56 +70,62 @@ module _ (n : ℕ) (list : List ℕ) (l : Listed n list) (q u : ℕ) (b : Betwee
 
 -- ---- the loop
 
-listed : (c : goal.At-loop-u) → Listed c.args.n c.args.list.now
-listed c =
-    rule20_accepted c.args.n c.args.list.now (rw c.requires.list_value tt)
+listed : (n : ℕ) (list : List ℕ) → rule20 n list ≡ success → Listed n list
+listed n list h = rule20_accepted n list (rw h tt)
 
 -- q is at most u
-count : (c : goal.At-loop-u) → length (kept c.args.list.now c.loop-u.u) + c.loop-u.q ≡ c.loop-u.u
-count c =
-    kept_count c.args.n c.args.list.now (listed c) c.loop-u.u c.loop-u.q c.loop-u.invariant.0 c.loop-u.invariant.2
+count : (n : ℕ) (list : List ℕ) (u q : ℕ) → rule20 n list ≡ success → u ≤ n → Between list n q u → length (kept list u) + q ≡ u
+count n list u q h low b = kept_count n list (listed n list h) u q low b
 
 pub loop-u-init : goal.loop-u-init
 unfolding kept passing
 loop-u-init c = (omega arith, refl, record { index = omega arith; above = λ x e. absurd (omega arith); below = omega arith }, refl)
 
 pub overflow_add-q : goal.overflow_add-q
-overflow_add-q c = omega (arith, count c.before.before.before)
+overflow_add-q c =
+    let at = c.loop-u in
+    omega (arith, count c.args.n c.args.list.now at.u at.q c.requires.list_value at.invariant.0 at.invariant.2)
 
 pub overflow_sub-unknowns : goal.overflow_sub-unknowns
-overflow_sub-unknowns c = omega (arith, count c.before.before.before)
+overflow_sub-unknowns c =
+    let at = c.loop-u in
+    omega (arith, count c.args.n c.args.list.now at.u at.q c.requires.list_value at.invariant.0 at.invariant.2)
 
 pub offset_bounds-unknowns-u : goal.offset_bounds-unknowns-u
-offset_bounds-unknowns-u c = omega (arith, count c.before.before.before)
+offset_bounds-unknowns-u c =
+    let at = c.loop-u in
+    omega (arith, count c.args.n c.args.list.now at.u at.q c.requires.list_value at.invariant.0 at.invariant.2)
 
 pub bounds-unknowns-u : goal.bounds-unknowns-u
-bounds-unknowns-u c = omega (arith, count c.before.before.before)
+bounds-unknowns-u c =
+    let at = c.loop-u in
+    omega (arith, count c.args.n c.args.list.now at.u at.q c.requires.list_value at.invariant.0 at.invariant.2)
 
 pub loop-u-preserved : goal.loop-u-preserved
 loop-u-preserved c =
     let a = c.args in
-    let at = c.before.before.before in
+    let known = listed a.n a.list.now c.requires.list_value in
     let found = c.struck_at.ensures in
     let inside = c.loop-u-test.true in
-    ⊎_elim
-    (λ w.
-    let here : get_or a.list.now c.loop-u.q a.n ≡ c.loop-u.u = sym found ∙ w.0.taken in
-    let same : c.loop-u.u + 1 - (c.loop-u.q + 1) ≡ c.loop-u.u - c.loop-u.q = omega arith in
-    rw (w.1, w.2) (
-      omega arith,
-      c.loop-u.invariant.1,
-      between_struck a.n a.list.now (listed at) c.loop-u.q c.loop-u.u c.loop-u.invariant.2 inside here,
-      rw same (c.loop-u.invariant.3 ∙ sym (kept_struck a.n a.list.now (listed at) c.loop-u.q c.loop-u.u c.loop-u.invariant.2 inside here)),
-    ))
-    (λ w.
-    let here : get_or a.list.now c.loop-u.q a.n ≢ c.loop-u.u = λ e. w.0.left (found ∙ e) in
-    rw (w.1, w.2) (
-      omega arith,
-      length-set c.loop-u.unknowns (c.loop-u.u - c.loop-u.q) c.loop-u.u ∙ c.loop-u.invariant.1,
-      between_kept a.n a.list.now (listed at) c.loop-u.q c.loop-u.u c.loop-u.invariant.2 inside here,
-      written a.n a.list.now (listed at) c.loop-u.q c.loop-u.u c.loop-u.invariant.2 inside here c.loop-u.unknowns (omega arith) c.loop-u.invariant.3,
-    ))
-    c.if-struck_at-u.branch
+    elim c.if-struck_at-u.branch [
+      | then-struck_at-u w ↦
+          let here : get_or a.list.now c.loop-u.q a.n ≡ c.loop-u.u = sym found ∙ w.if-struck_at-u.true in
+          let same : c.loop-u.u + 1 - (c.loop-u.q + 1) ≡ c.loop-u.u - c.loop-u.q = omega arith in
+          rw (w.unknowns-is, w.q-is) (
+            omega arith,
+            c.loop-u.invariant.1,
+            between_struck a.n a.list.now known c.loop-u.q c.loop-u.u c.loop-u.invariant.2 inside here,
+            rw same (c.loop-u.invariant.3 ∙ sym (kept_struck a.n a.list.now known c.loop-u.q c.loop-u.u c.loop-u.invariant.2 inside here)),
+          )
+      | else-struck_at-u w ↦
+          let here : get_or a.list.now c.loop-u.q a.n ≢ c.loop-u.u = λ e. w.if-struck_at-u.false (found ∙ e) in
+          rw (w.unknowns-is, w.q-is) (
+            omega arith,
+            length-set c.loop-u.unknowns (c.loop-u.u - c.loop-u.q) c.loop-u.u ∙ c.loop-u.invariant.1,
+            between_kept a.n a.list.now known c.loop-u.q c.loop-u.u c.loop-u.invariant.2 inside here,
+            written a.n a.list.now known c.loop-u.q c.loop-u.u c.loop-u.invariant.2 inside here c.loop-u.unknowns (omega arith) c.loop-u.invariant.3,
+          )
+    ]
 
 pub shape_of-unknowns : goal.shape_of-unknowns
 shape_of-unknowns c = c.loop-u.invariant.1
@@ -128,5 +134,11 @@ pub returns : goal.returns
 returns c =
     let a = c.args in
     let end : c.loop-u.u ≡ a.n = omega arith in
-    let past : c.loop-u.q ≡ length a.list.now = omega (arith, count c.before, length_kept a.n a.list.now (listed c.before), ap (λ u. length (kept a.list.now u)) end) in
+    let known = listed a.n a.list.now c.requires.list_value in
+    let past : c.loop-u.q ≡ length a.list.now = omega (
+      arith,
+      kept_count a.n a.list.now known c.loop-u.u c.loop-u.q c.loop-u.invariant.0 c.loop-u.invariant.2,
+      length_kept a.n a.list.now known,
+      ap (λ u. length (kept a.list.now u)) end,
+    ) in
     rw (← end, ← past) c.loop-u.invariant.3

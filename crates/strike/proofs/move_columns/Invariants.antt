@@ -1,14 +1,10 @@
 -- `strike::move_columns` meets its contract. The loop's invariant: the columns before c stand where they go, the others where they stood, and `to` is where column
 -- c goes. The measure is the number of columns left. Assumes nothing.
-use Prim.Native.Nat.{◌+◌, ◌-◌, ◌≤◌}
-use native.Mathlib.Omega.{arith}
-use mathlib.Core.Path.{◌≡◌, refl, sym, ap, ◌∙◌}
-use lib.ListN.{length, get_or}
-use Rattle.shape.specs.Places.{triangle, packed_place, block_start}
-use Rattle.shape.specs.Layouts.{Entry}
-use Rattle.shape.proofs.Columns.{block_start_zero, triangle_columns}
-use Rattle.shape.proofs.Bounds.{triangle_le, block_start_le}
-use Rattle.strike.proofs.Columns.{row_le_place, order_le, entry_of, ColumnsMoved, none_moved, all_moved, next_start, column_ahead, column_moved}
+use Prim.Native.Nat.{◌-◌, ◌≤◌}
+use mathlib.Core.Path.{◌≡◌}
+use lib.ListN.{length}
+use Rattle.shape.specs.Places.{block_start}
+use Rattle.strike.proofs.Columns.{ColumnsMoved}
 use Rattle.strike.proofs.move_columns.Given as goal
 
 abbrev pub invariant-loop-c : goal.invariant-loop-c

@@ -1,6 +1,5 @@
 -- `strike::struck_at` meets its contract. Assumes nothing.
 use mathlib.Core.Path.{sym}
-use borrow.Author.Rules.{rules}
 use lib.ListN.{get_or-eq_default}
 use Rattle.strike.proofs.Strikes.{get_d_any}
 use Rattle.strike.proofs.struck_at.Goals as goal

@@ -1,11 +1,10 @@
 -- `solve::blocked::apart8` meets its contract. Assumes nothing.
-use Prim.Native.Nat.{ℕ, ◌+◌, ◌-◌, ◌*◌, ◌≤◌, ◌<◌}
+use Prim.Native.Nat.{ℕ, ◌+◌, ◌*◌, ◌≤◌, ◌<◌}
 use native.Mathlib.Nat.{suc-mul, zero-mul, mul-le-mul_right}
 use native.Mathlib.Numerals.{add-one}
 use native.Mathlib.Omega.{arith}
 use mathlib.Core.Path.{◌≡◌, refl}
-use lib.ListN.{length}
-use Rattle.kernels.proofs.Loops.{Stored, stored_none, stored_next}
+use Rattle.kernels.proofs.Loops.{stored_none, stored_next}
 use Rattle.solve.proofs.blocked.apart8.Goals as goal
 
 next_le : (s step : ℕ) → s < 8 → (s + 1) * step ≤ 8 * step

@@ -1,5 +1,4 @@
 -- `solve::blocked::backward_block` meets its contract: the rows below the triangle, and then the triangle. Assumes nothing.
-use borrow.Author.Rules.{rules}
 use Rattle.solve.proofs.Substitution.{backward_done}
 use Rattle.solve.proofs.blocked.backward_block.Goals as goal
 

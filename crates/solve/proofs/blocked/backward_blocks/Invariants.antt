@@ -1,16 +1,9 @@
 -- `solve::blocked::backward_blocks` meets its contract. The invariant of its loop: the substitution has come to c, a block column's end. Assumes nothing.
-use Prim.Native.Nat.{◌+◌, ◌-◌, ◌≤◌, ◌<◌}
-use native.Mathlib.Nat.{zero-add}
-use native.Mathlib.Omega.{arith}
-use mathlib.Core.Path.{◌≡◌, sym, ap, ◌∙◌}
-use mathlib.Core.Logic.{inr}
-use lib.ListN.{length-take, length-drop}
-use Rattle.shape.specs.Places.{triangle, blocked_place, block_of, width}
-use Rattle.shape.proofs.Bounds.{block_start_le, triangle_le}
-use Rattle.shape.proofs.Blocks.{block_of_le, block_of_block, width_pos}
+use Prim.Native.Nat.{◌≤◌}
+use Rattle.shape.specs.Places.{blocked_place}
 use Rattle.calls.specs.Triangles.{height, load}
-use Rattle.solve.proofs.Substitution.{BackwardTo, backward_start, backward_end}
-use Rattle.solve.proofs.BlockTurns.{Whole, block_rows_room, last_block, block_backward}
+use Rattle.solve.proofs.Substitution.{BackwardTo}
+use Rattle.solve.proofs.BlockTurns.{Whole}
 use Rattle.solve.proofs.blocked.backward_blocks.Given as goal
 
 abbrev pub invariant-loop-c : goal.invariant-loop-c

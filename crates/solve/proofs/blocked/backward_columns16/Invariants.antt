@@ -1,14 +1,11 @@
 -- `solve::blocked::backward_columns16` meets its contract. The invariant of its loop: the products of the last k rows are subtracted, and row
 -- end − k has its entry in column s at `at`. Assumes nothing.
 use Prim.Native.Nat.{◌+◌, ◌-◌, ◌≤◌}
-use native.Mathlib.Omega.{arith}
-use mathlib.Core.Path.{◌≡◌, sym, ap, ◌∙◌}
+use mathlib.Core.Path.{◌≡◌}
 use Rattle.shape.specs.Places.{place_in_block}
 use Rattle.calls.specs.Triangles.{place_from}
-use Rattle.kernels.proofs.Products.{minus_none}
 use Rattle.solve.specs.Substitution.{entries_at}
-use Rattle.solve.proofs.BlockPlaces.{room_part, next_up}
-use Rattle.solve.proofs.BlockColumns.{Less16, less16_next, columns16_done}
+use Rattle.solve.proofs.BlockColumns.{Less16}
 use Rattle.solve.proofs.blocked.backward_columns16.Given as goal
 
 abbrev pub invariant-loop-k : goal.invariant-loop-k

@@ -1,8 +1,8 @@
 -- `solve::blocked::backward_last_columns` meets its contract. The invariant of its loop: the last k rows' products are subtracted. Assumes nothing.
-use Prim.Native.Nat.{◌-◌, ◌≤◌}
+use Prim.Native.Nat.{◌-◌}
 use native.Mathlib.Omega.{arith}
 use mathlib.Core.Path.{◌≡◌}
-use Rattle.solve.specs.Substitution.{block_entries, ColumnsSubtracted}
+use Rattle.solve.specs.Substitution.{block_entries}
 use Rattle.solve.proofs.Rows.{columns_none, columns_next}
 use Rattle.solve.proofs.BlockColumns.{rows_beside}
 use Rattle.solve.proofs.blocked.backward_last_columns.Goals as goal
@@ -15,7 +15,12 @@ loop-k-init c =
 pub backward_row-requires : goal.backward_row-requires
 backward_row-requires c =
     let a = c.args in
-    record { block_column = rows_beside a.block a.part.now a.work.now c.loop-k.work c.requires.block_column c.loop-k.invariant.1.size; from_le_w = omega arith; w_le_r = omega arith; r_lt_h = omega arith }
+    record {
+      block_column = rows_beside a.block a.part.now a.work.now c.loop-k.work c.requires.block_column c.loop-k.invariant.1.size;
+      from_le_w = omega arith;
+      w_le_r = omega arith;
+      r_lt_h = omega arith;
+    }
 
 pub loop-k-preserved : goal.loop-k-preserved
 loop-k-preserved c =

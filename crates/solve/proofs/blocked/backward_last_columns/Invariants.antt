@@ -1,10 +1,6 @@
 -- `solve::blocked::backward_last_columns` meets its contract. The invariant of its loop: the last k rows' products are subtracted. Assumes nothing.
 use Prim.Native.Nat.{◌-◌, ◌≤◌}
-use native.Mathlib.Omega.{arith}
-use mathlib.Core.Path.{◌≡◌}
 use Rattle.solve.specs.Substitution.{block_entries, ColumnsSubtracted}
-use Rattle.solve.proofs.Rows.{columns_none, columns_next}
-use Rattle.solve.proofs.BlockColumns.{rows_beside}
 use Rattle.solve.proofs.blocked.backward_last_columns.Given as goal
 
 abbrev pub invariant-loop-k : goal.invariant-loop-k

@@ -1,8 +1,8 @@
 -- `solve::blocked::backward_rows` meets its contract. The invariant of its loop: the products of the rows from `end` on are subtracted. Assumes nothing.
-use Prim.Native.Nat.{◌+◌, ◌-◌, ◌≤◌}
+use Prim.Native.Nat.{◌+◌, ◌-◌}
 use native.Mathlib.Omega.{arith}
 use mathlib.Core.Path.{◌≡◌}
-use Rattle.solve.specs.Substitution.{block_entries, ColumnsSubtracted}
+use Rattle.solve.specs.Substitution.{block_entries}
 use Rattle.solve.proofs.BlockColumns.{rows_beside}
 use Rattle.solve.proofs.Rows.{columns_none, columns_add}
 use Rattle.solve.proofs.blocked.backward_rows.Goals as goal

@@ -1,8 +1,8 @@
 -- `solve::blocked::backward_tile` meets its contract. The invariant of its loop: the products are subtracted from the rows before s. Assumes nothing.
-use Prim.Native.Nat.{◌+◌, ◌-◌, ◌≤◌}
+use Prim.Native.Nat.{◌+◌, ◌-◌}
 use native.Mathlib.Omega.{arith}
 use mathlib.Core.Path.{◌≡◌, ◌∙◌}
-use Rattle.solve.specs.Substitution.{block_entries, ColumnsSubtracted}
+use Rattle.solve.specs.Substitution.{block_entries}
 use Rattle.solve.proofs.BlockColumns.{rows_beside}
 use Rattle.solve.proofs.Rows.{replaced_none, columns_join}
 use Rattle.solve.proofs.blocked.backward_tile.Goals as goal
@@ -13,7 +13,10 @@ loop-s-init c = (omega arith, replaced_none _ 0 c.args.work.now)
 pub backward_columns16-requires : goal.backward_columns16-requires
 backward_columns16-requires c =
     let a = c.args in
-    record { block_column = rows_beside a.block a.part.now a.work.now c.loop-s.work c.requires.block_column c.loop-s.invariant.1.size; s_bound = omega arith }
+    record {
+      block_column = rows_beside a.block a.part.now a.work.now c.loop-s.work c.requires.block_column c.loop-s.invariant.1.size;
+      s_bound = omega arith;
+    }
 
 pub loop-s-preserved : goal.loop-s-preserved
 loop-s-preserved c =
@@ -26,7 +29,10 @@ loop-s-preserved c =
 pub backward_last_columns-requires : goal.backward_last_columns-requires
 backward_last_columns-requires c =
     let a = c.args in
-    record { block_column = rows_beside a.block a.part.now a.work.now c.loop-s.work c.requires.block_column c.loop-s.invariant.1.size; from_le_w = omega arith }
+    record {
+      block_column = rows_beside a.block a.part.now a.work.now c.loop-s.work c.requires.block_column c.loop-s.invariant.1.size;
+      from_le_w = omega arith;
+    }
 
 pub shape_of-work-then-s-w : goal.shape_of-work-then-s-w
 shape_of-work-then-s-w c = c.backward_last_columns.ensures.size ∙ c.loop-s.invariant.1.size

@@ -1,10 +1,6 @@
 -- `solve::blocked::backward_tile` meets its contract. The invariant of its loop: the products are subtracted from the rows before s. Assumes nothing.
-use Prim.Native.Nat.{◌+◌, ◌-◌, ◌≤◌}
-use native.Mathlib.Omega.{arith}
-use mathlib.Core.Path.{◌≡◌, ◌∙◌}
+use Prim.Native.Nat.{◌-◌, ◌≤◌}
 use Rattle.solve.specs.Substitution.{block_entries, ColumnsSubtracted}
-use Rattle.solve.proofs.BlockColumns.{rows_beside}
-use Rattle.solve.proofs.Rows.{replaced_none, columns_join}
 use Rattle.solve.proofs.blocked.backward_tile.Given as goal
 
 abbrev pub invariant-loop-s : goal.invariant-loop-s

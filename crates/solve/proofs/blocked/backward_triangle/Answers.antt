@@ -1,15 +1,11 @@
 -- `solve::blocked::backward_triangle` meets its contract. The invariant of its loop: the rows from r on are finished, their products are taken from
 -- those before r, and `at` is where row r begins. Assumes nothing.
-use Prim.Native.Nat.{◌+◌, ◌-◌, ◌≤◌, ◌<◌}
 use native.Mathlib.Omega.{arith}
 use mathlib.Core.Path.{◌≡◌, refl}
 use lib.ListN.{length-set, length-take, length-drop}
-use Rattle.shape.specs.Places.{place_in_block}
-use Rattle.calls.specs.Triangles.{place_from}
-use Rattle.solve.specs.Substitution.{entries_at}
-use Rattle.solve.proofs.BlockPlaces.{room, before_inside}
+use Rattle.solve.proofs.BlockPlaces.{before_inside}
 use Rattle.solve.proofs.BlockColumns.{row_inside_up}
-use Rattle.solve.proofs.Triangles.{TakenFrom, taken_none, taken_all}
+use Rattle.solve.proofs.Triangles.{taken_none, taken_all}
 use Rattle.solve.proofs.blocked.backward_triangle.Goals as goal
 
 pub loop-r-init : goal.loop-r-init
@@ -18,25 +14,18 @@ loop-r-init c =
     (omega arith, c.place_in_block-at.ensures, taken_none _ a.block.w a.work.now)
 
 -- in a turn the row before lies in the block column
-inside : (c : goal.In-loop-r)
-    → let a = c.args in
-    (a.block.skip + c.loop-r.r ≤ c.loop-r.at) × (c.loop-r.at - (a.block.skip + c.loop-r.r) + (c.loop-r.r - 1) < room a.block)
-inside c =
-    let a = c.args in
-    let row = before_inside a.block c.loop-r.r c.loop-r.at (omega arith) (omega arith) (omega arith) c.loop-r.invariant.1 in
-    (row.0, row.2)
-
 pub overflow_sub-at : goal.overflow_sub-at
-overflow_sub-at c = omega (arith, inside c)
+overflow_sub-at c = omega (arith, before_inside c.args.block c.loop-r.r c.loop-r.at (omega arith) (omega arith) (omega arith) c.loop-r.invariant.1)
 
 pub overflow_add-end : goal.overflow_add-end
-overflow_add-end c = omega (arith, inside c)
+overflow_add-end c = omega (arith, before_inside c.args.block c.loop-r.r c.loop-r.at (omega arith) (omega arith) (omega arith) c.loop-r.invariant.1)
 
 pub offset_bounds-part-end : goal.offset_bounds-part-end
-offset_bounds-part-end c = omega (arith, inside c.before)
+offset_bounds-part-end c =
+    omega (arith, before_inside c.args.block c.loop-r.r c.loop-r.at (omega arith) (omega arith) (omega arith) c.loop-r.invariant.1)
 
 pub bounds-part-end : goal.bounds-part-end
-bounds-part-end c = omega (arith, inside c.before.before)
+bounds-part-end c = omega (arith, before_inside c.args.block c.loop-r.r c.loop-r.at (omega arith) (omega arith) (omega arith) c.loop-r.invariant.1)
 
 pub slice_bounds-subtract_multiple-end : goal.slice_bounds-subtract_multiple-end
 slice_bounds-subtract_multiple-end c = simp length-set (omega arith)
@@ -45,13 +34,17 @@ pub slice_bounds-subtract_multiple-end-in-loop-r : goal.slice_bounds-subtract_mu
 slice_bounds-subtract_multiple-end-in-loop-r c = simp (length-take, length-set) (omega arith)
 
 pub offset_bounds-part-at : goal.offset_bounds-part-at
-offset_bounds-part-at c = omega (arith, inside c.before.before.before)
+offset_bounds-part-at c =
+    omega (arith, before_inside c.args.block c.loop-r.r c.loop-r.at (omega arith) (omega arith) (omega arith) c.loop-r.invariant.1)
 
 pub slice_bounds-subtract_multiple-end-in-loop-r-2 : goal.slice_bounds-subtract_multiple-end-in-loop-r-2
-slice_bounds-subtract_multiple-end-in-loop-r-2 c = omega (arith, inside c.before.before.before)
+slice_bounds-subtract_multiple-end-in-loop-r-2 c =
+    omega (arith, before_inside c.args.block c.loop-r.r c.loop-r.at (omega arith) (omega arith) (omega arith) c.loop-r.invariant.1)
 
 pub subtract_multiple-requires : goal.subtract_multiple-requires
-subtract_multiple-requires c = simp (length-take, length-drop, length-set) (omega (arith, inside c.before.before.before.before))
+subtract_multiple-requires c =
+    simp (length-take, length-drop, length-set)
+    (omega (arith, before_inside c.args.block c.loop-r.r c.loop-r.at (omega arith) (omega arith) (omega arith) c.loop-r.invariant.1))
 
 pub loop-r-preserved : goal.loop-r-preserved
 loop-r-preserved c =

@@ -1,15 +1,11 @@
 -- `solve::blocked::backward_triangle` meets its contract. The invariant of its loop: the rows from r on are finished, their products are taken from
 -- those before r, and `at` is where row r begins. Assumes nothing.
-use Prim.Native.Nat.{◌+◌, ◌-◌, ◌≤◌, ◌<◌}
-use native.Mathlib.Omega.{arith}
-use mathlib.Core.Path.{◌≡◌, refl}
-use lib.ListN.{length-set, length-take, length-drop}
+use Prim.Native.Nat.{◌+◌, ◌≤◌}
+use mathlib.Core.Path.{◌≡◌}
 use Rattle.shape.specs.Places.{place_in_block}
 use Rattle.calls.specs.Triangles.{place_from}
 use Rattle.solve.specs.Substitution.{entries_at}
-use Rattle.solve.proofs.BlockPlaces.{room, before_inside}
-use Rattle.solve.proofs.BlockColumns.{row_inside_up}
-use Rattle.solve.proofs.Triangles.{TakenFrom, taken_none, taken_all}
+use Rattle.solve.proofs.Triangles.{TakenFrom}
 use Rattle.solve.proofs.blocked.backward_triangle.Given as goal
 
 abbrev pub invariant-loop-r : goal.invariant-loop-r

@@ -2,7 +2,6 @@
 use Prim.Native.Nat.{◌-◌, ◌<◌}
 use native.Mathlib.Omega.{arith}
 use mathlib.Core.Path.{◌≡◌, refl, ap, ◌∙◌}
-use borrow.Author.Rules.{rules}
 use Rattle.shape.specs.Places.{block_of, width}
 use Rattle.shape.proofs.Blocks.{block_of_le, column_in_width}
 use Rattle.solve.proofs.blocked.block_from.Goals as goal

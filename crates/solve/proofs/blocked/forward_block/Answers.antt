@@ -1,5 +1,4 @@
 -- `solve::blocked::forward_block` meets its contract: the triangle, and then the rows below it. Assumes nothing.
-use borrow.Author.Rules.{rules}
 use Rattle.solve.proofs.Substitution.{forward_done}
 use Rattle.solve.proofs.blocked.forward_block.Goals as goal
 

@@ -1,14 +1,16 @@
 -- `solve::blocked::forward_blocks` meets its contract. The invariant of its loop: the substitution has come to c, a block column's first. Assumes nothing.
-use Prim.Native.Nat.{◌+◌, ◌-◌, ◌≤◌, ◌<◌}
+use Prim.Native.Nat.{ℕ, ◌+◌, ◌≤◌, ◌<◌}
 use native.Mathlib.Nat.{zero-add}
 use native.Mathlib.Omega.{arith}
 use mathlib.Core.Path.{◌≡◌, sym, ◌∙◌}
+use mathlib.Core.List.{List}
+use lib.Ieee.{Float}
 use lib.ListN.{length-take, length-drop}
-use Rattle.shape.specs.Places.{triangle, blocked_place, block_of}
-use Rattle.shape.proofs.Bounds.{block_start_le, triangle_le}
+use Rattle.shape.specs.Places.{block_of, width}
 use Rattle.shape.proofs.Blocks.{block_of_le, width_pos, first_next}
-use Rattle.calls.specs.Triangles.{height, load}
-use Rattle.solve.proofs.Substitution.{ForwardTo, forward_start, forward_end}
+use Rattle.solve.proofs.Substitution.{forward_start, forward_end}
+use Rattle.solve.specs.Substitution.{BlockRows}
+use Rattle.solve.proofs.BlockPlaces.{start_room}
 use Rattle.solve.proofs.BlockTurns.{block_fits, block_rows_room, block_forward}
 use Rattle.solve.proofs.blocked.forward_blocks.Goals as goal
 
@@ -18,30 +20,26 @@ loop-c-init c =
     (omega arith, λ p. omega (arith, block_of_le a.shape.block 0), forward_start a.rows _ a.work.now c.requires.size)
 
 -- the block column's values lie in the matrix
-start_le : (c : goal.After-block_start-at)
-    → let n = c.args.shape.order in
-    (c.block_start-at.result ≤ triangle n) × (triangle n ≤ 8002000)
-start_le c =
-    let n = c.args.shape.order in
-    (omega (arith, block_start_le n c.loop-c.c (omega arith)), triangle_le n (omega arith))
-
 pub offset_bounds-matrix-at : goal.offset_bounds-matrix-at
-offset_bounds-matrix-at c = omega (arith, start_le c.before)
+offset_bounds-matrix-at c =
+    let s = c.args.shape in
+    omega (arith, start_room s.order c.loop-c.c c.block_start-at.result (omega arith) (omega arith) c.block_start-at.ensures)
 
 pub slice_bounds-forward_block-count : goal.slice_bounds-forward_block-count
-slice_bounds-forward_block-count c = omega (arith, start_le c.before)
+slice_bounds-forward_block-count c =
+    let s = c.args.shape in
+    omega (arith, start_room s.order c.loop-c.c c.block_start-at.result (omega arith) (omega arith) c.block_start-at.ensures)
 
 pub slice_bounds-forward_block-start : goal.slice_bounds-forward_block-start
-slice_bounds-forward_block-start c = omega (arith, start_le c.before)
+slice_bounds-forward_block-start c =
+    let s = c.args.shape in
+    omega (arith, start_room s.order c.loop-c.c c.block_start-at.result (omega arith) (omega arith) c.block_start-at.ensures)
 
 -- the block column ends with the rows or before
-ends : (c : goal.After-block_width-w)
-    → c.loop-c.c + c.block_width-w.result ≤ c.args.rows
-ends c =
-    let a = c.args in
-    let pre = c.requires in
-    rw c.block_width-w.ensures
-    (block_fits a.shape.order a.shape.block a.rows c.loop-c.c pre.fits pre.whole (c.loop-c.invariant.1 (omega arith)) (omega arith))
+ends :
+    (n b rows c w : ℕ) (matrix work : List Float) → BlockRows n b rows matrix work → (c < rows → block_of b c ≡ c) → c < rows → w ≡ width n b c →
+    c + w ≤ rows
+ends n b rows c w matrix work pre first less wide = omega (arith, wide, block_fits n b rows c pre.fits pre.whole (first less) less)
 
 pub forward_block-requires : goal.forward_block-requires
 forward_block-requires c =
@@ -49,7 +47,9 @@ forward_block-requires c =
     let pre = c.requires in
     let n = a.shape.order in
     let b = a.shape.block in
-    let fits = ends c.before.before in
+    let fits =
+    ends n b a.rows c.loop-c.c c.block_width-w.result a.matrix.now a.work.now pre c.loop-c.invariant.1 c.loop-c-test.true
+    c.block_width-w.ensures in
     record {
       order = omega arith;
       columns = omega (arith, c.block_width-w.ensures, width_pos n b c.loop-c.c (omega arith) (omega arith));
@@ -60,12 +60,25 @@ forward_block-requires c =
     }
 
 pub overflow_add-c : goal.overflow_add-c
-overflow_add-c c = omega (arith, ends c.before.before.before.before.before)
+overflow_add-c c =
+    let a = c.args in
+    let s = a.shape in
+    omega (
+      arith,
+      ends s.order s.block a.rows c.loop-c.c c.block_width-w.result a.matrix.now a.work.now c.requires c.loop-c.invariant.1
+          c.loop-c-test.true c.block_width-w.ensures,
+    )
 
 pub loop-c-smaller : goal.loop-c-smaller
 loop-c-smaller c =
-    let s = c.args.shape in
-    omega (arith, ends c.before.before.before.before.before, width_pos s.order s.block c.loop-c.c (omega arith) (omega arith))
+    let a = c.args in
+    let s = a.shape in
+    omega (
+      arith,
+      ends s.order s.block a.rows c.loop-c.c c.block_width-w.result a.matrix.now a.work.now c.requires c.loop-c.invariant.1
+          c.loop-c-test.true c.block_width-w.ensures,
+      width_pos s.order s.block c.loop-c.c (omega arith) (omega arith),
+    )
 
 pub loop-c-preserved : goal.loop-c-preserved
 loop-c-preserved c =
@@ -73,7 +86,9 @@ loop-c-preserved c =
     let pre = c.requires in
     let n = a.shape.order in
     let b = a.shape.block in
-    let fits = ends c.before.before.before.before.before in
+    let fits =
+    ends n b a.rows c.loop-c.c c.block_width-w.result a.matrix.now a.work.now pre c.loop-c.invariant.1 c.loop-c-test.true
+    c.block_width-w.ensures in
     let first = c.loop-c.invariant.1 (omega arith) in
     let next : c.loop-c.c + c.block_width-w.result < n → block_of b (c.loop-c.c + c.block_width-w.result) ≡ c.loop-c.c + c.block_width-w.result =
     rw c.block_width-w.ensures (first_next n b c.loop-c.c pre.block first) in (

@@ -1,15 +1,9 @@
 -- `solve::blocked::forward_blocks` meets its contract. The invariant of its loop: the substitution has come to c, a block column's first. Assumes nothing.
-use Prim.Native.Nat.{◌+◌, ◌-◌, ◌≤◌, ◌<◌}
-use native.Mathlib.Nat.{zero-add}
-use native.Mathlib.Omega.{arith}
-use mathlib.Core.Path.{◌≡◌, sym, ◌∙◌}
-use lib.ListN.{length-take, length-drop}
-use Rattle.shape.specs.Places.{triangle, blocked_place, block_of}
-use Rattle.shape.proofs.Bounds.{block_start_le, triangle_le}
-use Rattle.shape.proofs.Blocks.{block_of_le, width_pos, first_next}
+use Prim.Native.Nat.{◌-◌, ◌≤◌, ◌<◌}
+use mathlib.Core.Path.{◌≡◌}
+use Rattle.shape.specs.Places.{blocked_place, block_of}
 use Rattle.calls.specs.Triangles.{height, load}
-use Rattle.solve.proofs.Substitution.{ForwardTo, forward_start, forward_end}
-use Rattle.solve.proofs.BlockTurns.{block_fits, block_rows_room, block_forward}
+use Rattle.solve.proofs.Substitution.{ForwardTo}
 use Rattle.solve.proofs.blocked.forward_blocks.Given as goal
 
 abbrev pub invariant-loop-c : goal.invariant-loop-c

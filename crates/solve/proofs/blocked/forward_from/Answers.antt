@@ -1,95 +1,129 @@
 -- `solve::blocked::forward_from` meets its contract: what the first block column leaves is the substitution with the trailing triangle after it. Assumes
 -- nothing.
-use Prim.Native.Nat.{◌+◌, ◌≤◌, ◌<◌}
 use native.Mathlib.Omega.{arith}
-use mathlib.Core.Path.{◌≡◌, sym, ap, ◌∙◌}
+use mathlib.Core.Path.{sym, ap, ◌∙◌}
 use mathlib.Core.Logic.{inr}
-use borrow.Author.Rules.{rules}
 use lib.ListN.{length-take, length-drop}
-use Rattle.shape.specs.Places.{triangle, block_of, block_start}
-use Rattle.shape.proofs.Bounds.{block_start_le, triangle_le}
+use Rattle.shape.specs.Places.{block_start}
 use Rattle.shape.proofs.Blocks.{block_of_le}
-use Rattle.solve.proofs.BlockTurns.{trailing_fits, trailing_ends, trailing_column, forward_joined}
+use Rattle.solve.proofs.BlockPlaces.{start_room}
+use Rattle.solve.proofs.BlockTurns.{trailing_inside, trailing_fits, trailing_ends, trailing_column, forward_joined}
 use Rattle.solve.proofs.blocked.forward_from.Goals as goal
 
 pub forward_whole-requires : goal.forward_whole-requires
 forward_whole-requires c = record { blocks_from = c.requires.blocks_from; fact = inr (sym c.block_of-c.ensures ∙ c.if-c-k.true) }
 
--- column k is not its block column's first, and so it is not 0
-inside : (c : goal.Else-c-k)
-    → let a = c.args in
-    a.k < a.shape.order
-inside c =
-    c.requires.k_lt_order (omega (arith, block_of_le c.args.shape.block c.args.k))
-
 pub block_from-block-requires : goal.block_from-block-requires
-block_from-block-requires c = (c.requires.blocks_from.block, inside c)
-
--- the block column begins in the matrix, and ends there
-start : (c : goal.After-block_start-at)
-    → let a = c.args in
-    let s = a.shape in
-    (c.block_start-at.result ≡ block_start s.order (block_of s.block a.k)) × (c.block_start-at.result ≤ triangle s.order)
-    × (triangle s.order ≤ 8002000) × (a.k + c.block_from-block.result.w ≤ s.order)
-start c =
+block_from-block-requires c =
     let s = c.args.shape in (
-      c.block_start-at.ensures ∙ ap (block_start s.order) c.block_of-c.ensures,
-      omega (arith, block_start_le s.order c.block_of-c.result (omega arith)),
-      triangle_le s.order (omega arith),
-      trailing_fits s.order s.block c.args.k c.block_from-block.result c.requires.blocks_from.block (inside c.before.before) c.block_from-block.ensures,
+      c.requires.blocks_from.block,
+      trailing_inside s.order s.block c.args.k c.block_of-c.result c.requires.k_lt_order c.block_of-c.ensures
+          c.if-c-k.false,
     )
 
+-- the block column begins in the matrix, and ends there
 pub offset_bounds-matrix-at : goal.offset_bounds-matrix-at
-offset_bounds-matrix-at c = omega (arith, start c)
+offset_bounds-matrix-at c =
+    let s = c.args.shape in
+    omega (
+      arith,
+      start_room s.order c.block_of-c.result c.block_start-at.result (omega arith) (omega (arith, block_of_le s.block c.args.k))
+          c.block_start-at.ensures,
+    )
 
 pub slice_bounds-forward_block-count : goal.slice_bounds-forward_block-count
-slice_bounds-forward_block-count c = omega (arith, start c)
+slice_bounds-forward_block-count c =
+    let s = c.args.shape in
+    omega (
+      arith,
+      start_room s.order c.block_of-c.result c.block_start-at.result (omega arith) (omega (arith, block_of_le s.block c.args.k))
+          c.block_start-at.ensures,
+    )
 
 pub slice_bounds-forward_block-start : goal.slice_bounds-forward_block-start
-slice_bounds-forward_block-start c = omega (arith, start c)
+slice_bounds-forward_block-start c =
+    let s = c.args.shape in
+    omega (
+      arith,
+      start_room s.order c.block_of-c.result c.block_start-at.result (omega arith) (omega (arith, block_of_le s.block c.args.k))
+          c.block_start-at.ensures,
+    )
 
 pub forward_block-requires : goal.forward_block-requires
 forward_block-requires c =
-    let here = c.before.before in
     let a = c.args in
+    let s = a.shape in
     let pre = c.requires.blocks_from in
-    trailing_column a.shape.order a.shape.block a.k c.block_from-block.result pre.block (inside c.before.before.before.before) c.block_from-block.ensures
-    c.block_start-at.result a.matrix.now pre.values (start here).0 _ pre.order pre.rows
+    let block = c.block_from-block.result in
+    let inside = trailing_inside s.order s.block c.args.k c.block_of-c.result c.requires.k_lt_order c.block_of-c.ensures c.if-c-k.false in
+    trailing_column s.order s.block a.k block pre.block inside c.block_from-block.ensures c.block_start-at.result a.matrix.now pre.values
+    (c.block_start-at.ensures ∙ ap (block_start s.order) c.block_of-c.ensures) _ pre.order pre.rows
 
 pub overflow_add-k : goal.overflow_add-k
-overflow_add-k c = omega (arith, start c.before.before.before.before.before)
+overflow_add-k c =
+    let s = c.args.shape in
+    omega (
+      arith,
+      trailing_fits s.order s.block c.args.k c.block_from-block.result (omega arith)
+          (trailing_inside s.order s.block c.args.k c.block_of-c.result c.requires.k_lt_order c.block_of-c.ensures c.if-c-k.false)
+          c.block_from-block.ensures,
+    )
 
 pub offset_bounds-work-w : goal.offset_bounds-work-w
-offset_bounds-work-w c = omega (arith, start c.before.before.before.before.before)
+offset_bounds-work-w c =
+    let s = c.args.shape in
+    omega (
+      arith,
+      trailing_fits s.order s.block c.args.k c.block_from-block.result (omega arith)
+          (trailing_inside s.order s.block c.args.k c.block_of-c.result c.requires.k_lt_order c.block_of-c.ensures c.if-c-k.false)
+          c.block_from-block.ensures,
+    )
 
 pub slice_bounds-forward_whole-count : goal.slice_bounds-forward_whole-count
-slice_bounds-forward_whole-count c = omega (arith, start c.before.before.before.before.before)
+slice_bounds-forward_whole-count c =
+    let s = c.args.shape in
+    omega (
+      arith,
+      trailing_fits s.order s.block c.args.k c.block_from-block.result (omega arith)
+          (trailing_inside s.order s.block c.args.k c.block_of-c.result c.requires.k_lt_order c.block_of-c.ensures c.if-c-k.false)
+          c.block_from-block.ensures,
+    )
 
 pub slice_bounds-forward_whole-start : goal.slice_bounds-forward_whole-start
-slice_bounds-forward_whole-start c = omega (arith, start c.before.before.before.before.before)
+slice_bounds-forward_whole-start c =
+    let s = c.args.shape in
+    omega (
+      arith,
+      trailing_fits s.order s.block c.args.k c.block_from-block.result (omega arith)
+          (trailing_inside s.order s.block c.args.k c.block_of-c.result c.requires.k_lt_order c.block_of-c.ensures c.if-c-k.false)
+          c.block_from-block.ensures,
+    )
 
 pub forward_whole-requires-else-c-k : goal.forward_whole-requires-else-c-k
 forward_whole-requires-else-c-k c =
-    let here = c.before.before.before.before.before.before in
-    let a = c.args in
+    let s = c.args.shape in
     let pre = c.requires.blocks_from in
-    let block = c.block_from-block in record {
+    let block = c.block_from-block.result in
+    let inside = trailing_inside s.order s.block c.args.k c.block_of-c.result c.requires.k_lt_order c.block_of-c.ensures c.if-c-k.false in
+    let fits = trailing_fits s.order s.block c.args.k block pre.block inside c.block_from-block.ensures in
+    record {
       blocks_from = record {
         order = pre.order;
         block = pre.block;
-        before = (start here).3;
+        before = fits;
         values = pre.values;
-        rows = simp (length-take, length-drop) (omega (arith, start here));
+        rows = simp (length-take, length-drop) (omega arith);
       };
-      fact = trailing_ends a.shape.order a.shape.block a.k c.block_from-block.result pre.block (inside c.before.before.before.before.before.before.before.before) c.block_from-block.ensures;
+      fact = trailing_ends s.order s.block c.args.k block pre.block inside c.block_from-block.ensures;
     }
 
 pub returns-else-c-k : goal.returns-else-c-k
 returns-else-c-k c =
-    let here = c.before.before.before.before.before.before.before.before.before in
     let a = c.args in
+    let s = a.shape in
     let pre = c.requires.blocks_from in
-    forward_joined a.shape.order a.shape.block a.k c.block_from-block.result pre.block (inside c.before.before.before.before.before.before.before.before.before.before.before) c.block_from-block.ensures
-    c.block_start-at.result a.matrix.now pre.values (start here).0 a.work.now _ _ pre.rows
-    c.forward_block.ensures
+    let block = c.block_from-block.result in
+    let inside = trailing_inside s.order s.block c.args.k c.block_of-c.result c.requires.k_lt_order c.block_of-c.ensures c.if-c-k.false in
+    forward_joined s.order s.block a.k block pre.block inside c.block_from-block.ensures c.block_start-at.result a.matrix.now pre.values
+    (c.block_start-at.ensures ∙ ap (block_start s.order) c.block_of-c.ensures) a.work.now _ _ pre.rows c.forward_block.ensures
     c.forward_whole-else-c-k.ensures

@@ -1,12 +1,8 @@
 -- `solve::blocked::forward_last_rows` meets its contract. The invariant of its loop: the products are subtracted from the rows before r, and `at` is
 -- where row r begins. Assumes nothing.
-use Prim.Native.Nat.{◌+◌, ◌-◌, ◌≤◌}
 use native.Mathlib.Omega.{arith}
 use mathlib.Core.Path.{◌≡◌}
 use lib.ListN.{length-take}
-use Rattle.shape.specs.Places.{place_in_block}
-use Rattle.calls.specs.Triangles.{place_from}
-use Rattle.solve.specs.Substitution.{entries_at, RowsSubtracted}
 use Rattle.solve.proofs.Rows.{replaced_none}
 use Rattle.solve.proofs.BlockPlaces.{room_under, values_le, next_under}
 use Rattle.solve.proofs.BlockColumns.{under_row}

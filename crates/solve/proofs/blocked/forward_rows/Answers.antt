@@ -1,11 +1,11 @@
 -- `solve::blocked::forward_rows` meets its contract. The invariant of its loop: the first t rows of each eighth are done. Assumes nothing.
-use Prim.Native.Nat.{◌+◌, ◌-◌, ◌*◌, ◌/◌, ◌≤◌}
+use Prim.Native.Nat.{◌+◌, ◌-◌, ◌*◌, ◌/◌}
 use native.Mathlib.Omega.{arith}
 use mathlib.Core.Path.{◌≡◌, ◌∙◌}
 use Rattle.solve.specs.Substitution.{block_entries}
 use Rattle.solve.proofs.Rows.{rows_join}
 use Rattle.solve.proofs.BlockColumns.{rows_beside}
-use Rattle.solve.proofs.Apart.{EighthsDone, eighths_none, eighths_next, eighths_all}
+use Rattle.solve.proofs.Apart.{eighths_none, eighths_next, eighths_all}
 use Rattle.solve.proofs.blocked.forward_rows.Goals as goal
 
 pub loop-t-init : goal.loop-t-init
@@ -30,7 +30,11 @@ loop-t-preserved c =
 pub forward_last_rows-requires : goal.forward_last_rows-requires
 forward_last_rows-requires c =
     let a = c.args in
-    record { block_column = rows_beside a.block a.part.now a.work.now c.loop-t.work c.requires c.loop-t.invariant.1.size; w_le_from = omega arith; from_le_h = omega arith }
+    record {
+      block_column = rows_beside a.block a.part.now a.work.now c.loop-t.work c.requires c.loop-t.invariant.1.size;
+      w_le_from = omega arith;
+      from_le_h = omega arith;
+    }
 
 pub shape_of-work : goal.shape_of-work
 shape_of-work c = c.forward_last_rows.ensures.size ∙ c.loop-t.invariant.1.size

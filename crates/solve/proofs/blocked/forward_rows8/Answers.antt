@@ -5,7 +5,6 @@ use mathlib.Core.Path.{◌∙◌}
 use lib.ListN.{get_or, length-take}
 use Rattle.solve.proofs.BlockPlaces.{room_under, values_le}
 use Rattle.solve.proofs.Apart.{apart_same, apart_inside, step_le, place_apart8, apart8_done}
-use borrow.Author.Rules.{rules}
 use Rattle.solve.proofs.blocked.forward_rows8.Goals as goal
 
 -- the bounds of the eight places
@@ -49,13 +48,18 @@ subtract_rising8-values-requires c =
 pub scatter8-requires : goal.scatter8-requires
 scatter8-requires c =
     let a = c.args in
-    let rows = c.apart8-rows.ensures in record { by_index = λ s few. omega (arith, rows s few, apart_inside a.q s a.t few c.requires.t_lt_q.0); by_index_2 = λ s s' few few' e. (apart_same a.q s s' a.t a.t c.requires.t_lt_q.0 c.requires.t_lt_q.0 (omega (arith, rows s few, rows s' few'))).0 }
+    let rows = c.apart8-rows.ensures in record {
+      by_index = λ s few. omega (arith, rows s few, apart_inside a.q s a.t few c.requires.t_lt_q.0);
+      by_index_2 = λ s s' few few' e. (apart_same a.q s s' a.t a.t c.requires.t_lt_q.0 c.requires.t_lt_q.0
+          (omega (arith, rows s few, rows s' few'))).0;
+    }
 
 pub returns : goal.returns
 returns c =
     let a = c.args in
     let from = c.place_in_block-from.ensures in
-    apart8_done a.block a.q a.t a.part.now a.work.now c.gather8.result c.subtract_rising8-values.result _ (λ (s : ℕ). get_or c.apart8-places.result s 0)
+    apart8_done a.block a.q a.t a.part.now a.work.now c.gather8.result c.subtract_rising8-values.result _
+    (λ (s : ℕ). get_or c.apart8-places.result s 0)
     (λ (s : ℕ). get_or c.apart8-rows.result s 0) (omega arith) c.apart8-rows.ensures c.gather8.ensures
     (λ s few. c.apart8-places.ensures s few ∙ place_apart8 a.block a.q a.t s _ from) c.subtract_rising8-values.ensures
     c.scatter8.ensures

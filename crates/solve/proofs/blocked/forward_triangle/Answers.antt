@@ -1,15 +1,11 @@
 -- `solve::blocked::forward_triangle` meets its contract. The invariant of its loop: the rows before r are finished; row r begins at `at`. Assumes
 -- nothing.
-use Prim.Native.Nat.{◌+◌, ◌-◌, ◌≤◌, ◌<◌}
 use native.Mathlib.Nat.{add-zero}
 use native.Mathlib.Omega.{arith}
 use mathlib.Core.Path.{◌≡◌}
 use lib.ListN.{length-take}
-use Rattle.shape.specs.Places.{place_in_block}
-use Rattle.calls.specs.Triangles.{place_from}
-use Rattle.solve.specs.Substitution.{entries_at, TriangleForward}
 use Rattle.solve.proofs.Triangles.{forward_none}
-use Rattle.solve.proofs.BlockPlaces.{room, room_inside, values_le, next_inside}
+use Rattle.solve.proofs.BlockPlaces.{room_inside, values_le, next_inside}
 use Rattle.solve.proofs.BlockColumns.{triangle_row}
 use Rattle.solve.proofs.blocked.forward_triangle.Goals as goal
 
@@ -25,29 +21,22 @@ pub slice_bounds-subtract_rising-end-in-loop-r : goal.slice_bounds-subtract_risi
 slice_bounds-subtract_rising-end-in-loop-r c = simp length-take (omega arith)
 
 -- in a turn the row lies in the block column
-inside : (c : goal.In-loop-r)
-    → let a = c.args in
-    c.loop-r.at + c.loop-r.r < room a.block
-inside c =
-    let a = c.args in
-    omega (arith, room_inside a.block c.loop-r.r (omega arith) (omega arith))
-
 pub subtract_rising-value-requires : goal.subtract_rising-value-requires
-subtract_rising-value-requires c = simp length-take (omega (arith, inside c.before.before))
+subtract_rising-value-requires c = simp length-take (omega (arith, room_inside c.args.block c.loop-r.r (omega arith) (omega arith)))
 
 pub overflow_add-work : goal.overflow_add-work
-overflow_add-work c = omega (arith, inside c.before.before.before)
+overflow_add-work c = omega (arith, room_inside c.args.block c.loop-r.r (omega arith) (omega arith))
 
 pub offset_bounds-part-at : goal.offset_bounds-part-at
-offset_bounds-part-at c = omega (arith, inside c.before.before.before)
+offset_bounds-part-at c = omega (arith, room_inside c.args.block c.loop-r.r (omega arith) (omega arith))
 
 pub bounds-part-at : goal.bounds-part-at
-bounds-part-at c = omega (arith, inside c.before.before.before.before)
+bounds-part-at c = omega (arith, room_inside c.args.block c.loop-r.r (omega arith) (omega arith))
 
 pub overflow_add-at-in-loop-r : goal.overflow_add-at-in-loop-r
 overflow_add-at-in-loop-r c =
     let a = c.args in
-    omega (arith, inside c.before.before.before.before, values_le a.block (omega arith) (omega arith))
+    omega (arith, room_inside c.args.block c.loop-r.r (omega arith) (omega arith), values_le a.block (omega arith) (omega arith))
 
 pub loop-r-preserved : goal.loop-r-preserved
 loop-r-preserved c =

@@ -1,16 +1,10 @@
 -- `solve::blocked::forward_triangle` meets its contract. The invariant of its loop: the rows before r are finished; row r begins at `at`. Assumes
 -- nothing.
-use Prim.Native.Nat.{◌+◌, ◌-◌, ◌≤◌, ◌<◌}
-use native.Mathlib.Nat.{add-zero}
-use native.Mathlib.Omega.{arith}
+use Prim.Native.Nat.{◌+◌, ◌-◌, ◌≤◌}
 use mathlib.Core.Path.{◌≡◌}
-use lib.ListN.{length-take}
 use Rattle.shape.specs.Places.{place_in_block}
 use Rattle.calls.specs.Triangles.{place_from}
 use Rattle.solve.specs.Substitution.{entries_at, TriangleForward}
-use Rattle.solve.proofs.Triangles.{forward_none}
-use Rattle.solve.proofs.BlockPlaces.{room, room_inside, values_le, next_inside}
-use Rattle.solve.proofs.BlockColumns.{triangle_row}
 use Rattle.solve.proofs.blocked.forward_triangle.Given as goal
 
 abbrev pub invariant-loop-r : goal.invariant-loop-r

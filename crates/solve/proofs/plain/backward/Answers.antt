@@ -1,14 +1,10 @@
 -- `solve::plain::backward` meets its contract. The invariant of its loop: a substitution that had come to its first c has come to c. Assumes nothing.
-use Prim.Native.Nat.{◌+◌, ◌-◌, ◌%◌, ◌≤◌}
+use Prim.Native.Nat.{◌+◌, ◌-◌, ◌%◌}
 use native.Mathlib.Omega.{arith}
 use mathlib.Core.Path.{◌≡◌, refl}
-use mathlib.Core.List.{List}
-use lib.ListN.{length, length-take, length-drop}
-use lib.Ieee.{Float}
-use Rattle.shape.specs.Places.{packed_place, triangle}
-use Rattle.calls.specs.Triangles.{height, load}
+use lib.ListN.{length-take, length-drop}
 use Rattle.solve.proofs.Packed.{part_room, backward_turn}
-use Rattle.solve.proofs.Substitution.{length_returned, BackwardTo, backward_start, backward_end}
+use Rattle.solve.proofs.Substitution.{length_returned, backward_start, backward_end}
 use Rattle.solve.proofs.plain.backward.Goals as goal
 
 pub new-shape-requires : goal.new-shape-requires
@@ -18,26 +14,44 @@ pub block_start-last-requires : goal.block_start-last-requires
 block_start-last-requires c = record { order_le_max_order = omega arith; c_le_order = omega arith }
 
 -- what lies behind the part's start is the triangle of its columns
-room : (c : goal.After-block_start-last)
-    → let n = c.args.n in
-    c.block_start-last.result + triangle (n % 8) ≡ triangle n
-room c =
-    let n = c.args.n in
-    part_room n (n - n % 8) _ c.block_start-last.result (omega arith) (omega arith) (rw c.new-shape.ensures.0 at c.block_start-last.ensures)
-
 pub offset_bounds-matrix-last : goal.offset_bounds-matrix-last
-offset_bounds-matrix-last c = omega (arith, room c)
+offset_bounds-matrix-last c =
+    let a = c.args in
+    omega (
+      arith,
+      part_room a.n (a.n - a.n % 8) (a.n % 8) c.block_start-last.result (omega arith) (omega arith)
+          (rw c.new-shape.ensures.0 at c.block_start-last.ensures),
+    )
 
 pub slice_bounds-backward_triangle-count : goal.slice_bounds-backward_triangle-count
-slice_bounds-backward_triangle-count c = omega (arith, room c)
+slice_bounds-backward_triangle-count c =
+    let a = c.args in
+    omega (
+      arith,
+      part_room a.n (a.n - a.n % 8) (a.n % 8) c.block_start-last.result (omega arith) (omega arith)
+          (rw c.new-shape.ensures.0 at c.block_start-last.ensures),
+    )
 
 pub slice_bounds-backward_triangle-start : goal.slice_bounds-backward_triangle-start
-slice_bounds-backward_triangle-start c = omega (arith, room c)
+slice_bounds-backward_triangle-start c =
+    let a = c.args in
+    omega (
+      arith,
+      part_room a.n (a.n - a.n % 8) (a.n % 8) c.block_start-last.result (omega arith) (omega arith)
+          (rw c.new-shape.ensures.0 at c.block_start-last.ensures),
+    )
 
 pub backward_triangle-requires : goal.backward_triangle-requires
 backward_triangle-requires c =
-    let fits = room c.before.before in
-    record { h_le_max_order = omega arith; w_le_h = omega arith; h_in_bounds = simp (length-take, length-drop) (omega arith); work_len = simp (length-take, length-drop) (omega arith) }
+    let fits =
+    part_room c.args.n (c.args.n - c.args.n % 8) (c.args.n % 8) c.block_start-last.result (omega arith) (omega arith)
+    (rw c.new-shape.ensures.0 at c.block_start-last.ensures) in
+    record {
+      h_le_max_order = omega arith;
+      w_le_h = omega arith;
+      h_in_bounds = simp (length-take, length-drop) (omega arith);
+      work_len = simp (length-take, length-drop) (omega arith);
+    }
 
 pub loop-c-init : goal.loop-c-init
 loop-c-init c =
@@ -55,25 +69,44 @@ loop-c-init c =
 pub block_start-at-requires : goal.block_start-at-requires
 block_start-at-requires c = record { order_le_max_order = omega arith; c_le_order = omega arith }
 
-room8 : (c : goal.After-block_start-at)
-    → let n = c.args.n in
-    c.block_start-at.result + triangle (n - (c.loop-c.c - 8)) ≡ triangle n
-room8 c =
-    part_room _ (c.loop-c.c - 8) _ c.block_start-at.result (omega arith) refl (rw c.loop-c.invariant.5 at c.block_start-at.ensures)
-
 pub offset_bounds-matrix-at : goal.offset_bounds-matrix-at
-offset_bounds-matrix-at c = omega (arith, room8 c)
+offset_bounds-matrix-at c =
+    let a = c.args in
+    omega (
+      arith,
+      part_room a.n (c.loop-c.c - 8) (a.n - (c.loop-c.c - 8)) c.block_start-at.result (omega arith) refl
+          (rw c.loop-c.invariant.5 at c.block_start-at.ensures),
+    )
 
 pub slice_bounds-backward_columns8-count : goal.slice_bounds-backward_columns8-count
-slice_bounds-backward_columns8-count c = omega (arith, room8 c)
+slice_bounds-backward_columns8-count c =
+    let a = c.args in
+    omega (
+      arith,
+      part_room a.n (c.loop-c.c - 8) (a.n - (c.loop-c.c - 8)) c.block_start-at.result (omega arith) refl
+          (rw c.loop-c.invariant.5 at c.block_start-at.ensures),
+    )
 
 pub slice_bounds-backward_columns8-start : goal.slice_bounds-backward_columns8-start
-slice_bounds-backward_columns8-start c = omega (arith, room8 c)
+slice_bounds-backward_columns8-start c =
+    let a = c.args in
+    omega (
+      arith,
+      part_room a.n (c.loop-c.c - 8) (a.n - (c.loop-c.c - 8)) c.block_start-at.result (omega arith) refl
+          (rw c.loop-c.invariant.5 at c.block_start-at.ensures),
+    )
 
 pub backward_columns8-requires : goal.backward_columns8-requires
 backward_columns8-requires c =
-    let fits = room8 c.before.before in
-    record { h_le_max_order = omega arith; le_h = omega arith; h_in_bounds = simp (length-take, length-drop) (omega arith); work_len = simp (length-take, length-drop) (omega arith) }
+    let fits =
+    part_room c.args.n (c.loop-c.c - 8) (c.args.n - (c.loop-c.c - 8)) c.block_start-at.result (omega arith) refl
+    (rw c.loop-c.invariant.5 at c.block_start-at.ensures) in
+    record {
+      h_le_max_order = omega arith;
+      le_h = omega arith;
+      h_in_bounds = simp (length-take, length-drop) (omega arith);
+      work_len = simp (length-take, length-drop) (omega arith);
+    }
 
 pub loop-c-preserved : goal.loop-c-preserved
 loop-c-preserved c =
@@ -81,14 +114,16 @@ loop-c-preserved c =
     let back : c.loop-c.c - 8 + 8 ≡ c.loop-c.c = omega arith in (
       omega arith,
       omega arith,
-      length_returned a.n (c.loop-c.c - 8) c.loop-c.work c.backward_columns8.new.work c.loop-c.invariant.2 (omega arith) c.backward_columns8.auto.work,
+      length_returned a.n (c.loop-c.c - 8) c.loop-c.work c.backward_columns8.new.work c.loop-c.invariant.2 (omega arith)
+          c.backward_columns8.auto.work,
       c.loop-c.invariant.3,
       c.loop-c.invariant.4,
       c.loop-c.invariant.5,
       λ y s.
           backward_turn a.n (c.loop-c.c - 8) 8 (a.n - (c.loop-c.c - 8)) c.block_start-at.result a.matrix.now y c.loop-c.work
           c.backward_columns8.new.work
-          c.loop-c.invariant.4 (omega arith) refl (rw c.loop-c.invariant.5 at c.block_start-at.ensures) (rw back (c.loop-c.invariant.6 y s)) c.backward_columns8.ensures,
+          c.loop-c.invariant.4 (omega arith) refl (rw c.loop-c.invariant.5 at c.block_start-at.ensures) (rw back (c.loop-c.invariant.6 y s))
+          c.backward_columns8.ensures,
     )
 
 pub returns : goal.returns

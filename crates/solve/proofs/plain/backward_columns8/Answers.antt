@@ -1,6 +1,5 @@
 -- `solve::plain::backward_columns8` meets its contract: the rows below the eight, and then their triangle. Assumes nothing.
 use native.Mathlib.Omega.{arith}
-use borrow.Author.Rules.{rules}
 use Rattle.solve.proofs.Substitution.{backward_done}
 use Rattle.solve.proofs.plain.backward_columns8.Goals as goal
 

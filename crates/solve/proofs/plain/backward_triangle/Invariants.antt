@@ -1,13 +1,9 @@
 -- `solve::plain::backward_triangle` meets its contract. The invariant of its loop: the rows from r on are finished, the others as before. Assumes
 -- nothing.
-use Prim.Native.Nat.{◌+◌, ◌-◌, ◌≤◌}
-use native.Mathlib.Omega.{arith}
-use mathlib.Core.Path.{◌≡◌}
-use lib.ListN.{length-take, length-drop}
-use Rattle.shape.specs.Places.{triangle, packed_place}
+use Prim.Native.Nat.{◌≤◌}
+use Rattle.shape.specs.Places.{packed_place}
 use Rattle.solve.specs.Substitution.{entries_at}
-use Rattle.solve.proofs.Packed.{column_room, triangle_turn}
-use Rattle.solve.proofs.Triangles.{BackwardRows, backward_none, backward_all}
+use Rattle.solve.proofs.Triangles.{BackwardRows}
 use Rattle.solve.proofs.plain.backward_triangle.Given as goal
 
 abbrev pub invariant-loop-r : goal.invariant-loop-r

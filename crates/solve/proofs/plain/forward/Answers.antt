@@ -1,14 +1,12 @@
 -- `solve::plain::forward` meets its contract. The invariant of its loop: the substitution has come to k; column k begins at `at`. Assumes nothing.
-use Prim.Native.Nat.{◌+◌, ◌-◌, ◌≤◌}
+use Prim.Native.Nat.{◌+◌}
 use native.Mathlib.Omega.{arith}
 use mathlib.Core.Path.{◌≡◌, sym, ◌∙◌}
 use lib.ListN.{length-take, length-drop}
-use Rattle.shape.specs.Places.{packed_place, block_start}
 use Rattle.shape.proofs.Columns.{block_start_zero, block_start_next}
 use Rattle.shape.proofs.Bounds.{block_start_le, triangle_le}
-use Rattle.calls.specs.Triangles.{height, load}
 use Rattle.solve.proofs.Packed.{forward_turn}
-use Rattle.solve.proofs.Substitution.{ForwardTo, forward_start, forward_end}
+use Rattle.solve.proofs.Substitution.{forward_start, forward_end}
 use Rattle.solve.proofs.plain.forward.Goals as goal
 
 pub loop-k-init : goal.loop-k-init

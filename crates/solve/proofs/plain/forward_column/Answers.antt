@@ -1,7 +1,6 @@
 -- `solve::plain::forward_column` meets its contract: the first row is finished, and its products are subtracted from the others. Assumes nothing.
 use native.Mathlib.Omega.{arith}
 use mathlib.Core.Path.{refl}
-use borrow.Author.Rules.{rules}
 use lib.ListN.{length, set, length-take, length-drop, length-set}
 use Rattle.solve.proofs.Substitution.{length_returned}
 use Rattle.solve.proofs.Packed.{column_done}

@@ -2,11 +2,10 @@
 use Prim.Native.Nat.{ℕ, ◌+◌, ◌-◌, ◌≤◌, ◌<◌}
 use native.Mathlib.Omega.{arith}
 use mathlib.Core.Path.{◌≡◌, refl}
-use lib.ListN.{length}
 use Rattle.shape.specs.Places.{packed_place, block_start}
 use Rattle.shape.proofs.Bounds.{block_start_le, triangle_le}
 use Rattle.shape.proofs.Columns.{block_start_zero, block_start_next, packed_place_column}
-use Rattle.kernels.proofs.Loops.{Stored, stored_none, stored_next}
+use Rattle.kernels.proofs.Loops.{stored_none, stored_next}
 use Rattle.solve.proofs.plain.places8.Goals as goal
 
 place : (h s : ℕ) → s ≤ 8 → 8 ≤ h → packed_place h 8 s ≡ block_start h s + (8 - s)
@@ -24,7 +23,13 @@ loop-s-init c = (omega arith, refl, start c.args.h c.requires.le_h, stored_none 
 pub overflow_add-at : goal.overflow_add-at
 overflow_add-at c =
     let a = c.args in
-    omega (arith, place a.h c.loop-s.s (omega arith) c.requires.le_h, block_start_le a.h c.loop-s.s (omega arith), triangle_le a.h c.requires.h_le_max_order)
+    omega (
+      arith,
+      place a.h c.loop-s.s (omega arith) c.requires.le_h,
+      block_start_le a.h c.loop-s.s (omega arith),
+      triangle_le a.h
+          c.requires.h_le_max_order,
+    )
 
 pub loop-s-preserved : goal.loop-s-preserved
 loop-s-preserved c = (

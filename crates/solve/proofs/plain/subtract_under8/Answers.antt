@@ -1,6 +1,5 @@
 -- `solve::plain::subtract_under8` meets its contract: eight rows are loaded, reduced and stored. Assumes nothing.
 use native.Mathlib.Omega.{arith}
-use borrow.Author.Rules.{rules}
 use lib.ListN.{get_or, length-take, length-drop}
 use Rattle.solve.proofs.Packed.{under8_done, under8_room}
 use Rattle.solve.proofs.plain.subtract_under8.Goals as goal

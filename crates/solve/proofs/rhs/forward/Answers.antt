@@ -1,46 +1,50 @@
 -- `solve::rhs::forward` meets its contract, by cases on the layout. Assumes nothing.
-use Prim.Native.Nat.{◌-◌, ◌≤◌}
+use Prim.Native.Nat.{◌-◌}
 use native.Mathlib.Omega.{arith}
 use mathlib.Core.Path.{ap, ◌∙◌}
-use borrow.Author.Rules.{rules}
 use lib.Dec.{T}
 use lib.ListN.{length-take, length-drop}
-use Rattle.shape.specs.Places.{triangle}
-use Rattle.shape.proofs.Bounds.{block_start_le, triangle_le}
 use Rattle.shape.proofs.Columns.{triangle_rest}
 use Rattle.calls.specs.declared.Call.TheVariants.{Solver}
 use Rattle.calls.specs.Refusals.{by_blocks}
 use Rattle.calls.specs.Triangles.{place_of}
 use Rattle.calls.specs.Arithmetic as Arithmetic
+use Rattle.solve.proofs.BlockPlaces.{start_room}
 use Rattle.solve.proofs.Factors.{packed_trailing}
 use Rattle.solve.proofs.rhs.forward.Goals as goal
 
 -- the part begins in the matrix
-start_le : (c : goal.After-block_start-at)
-    → let n = c.args.shape.order in
-    (c.block_start-at.result ≤ triangle n) × (triangle n ≤ 8002000)
-start_le c =
-    let a = c.args in
-    (omega (arith, block_start_le a.shape.order a.k (omega arith)), triangle_le a.shape.order (omega arith))
-
 pub offset_bounds-matrix-at : goal.offset_bounds-matrix-at
-offset_bounds-matrix-at c = omega (arith, start_le c.before)
+offset_bounds-matrix-at c =
+    let s = c.args.shape in
+    omega (arith, start_room s.order c.args.k c.block_start-at.result (omega arith) (omega arith) c.block_start-at.ensures)
 
 pub slice_bounds-forward-count : goal.slice_bounds-forward-count
-slice_bounds-forward-count c = omega (arith, start_le c.before)
+slice_bounds-forward-count c =
+    let s = c.args.shape in
+    omega (arith, start_room s.order c.args.k c.block_start-at.result (omega arith) (omega arith) c.block_start-at.ensures)
 
 pub slice_bounds-forward-start : goal.slice_bounds-forward-start
-slice_bounds-forward-start c = omega (arith, start_le c.before)
+slice_bounds-forward-start c =
+    let s = c.args.shape in
+    omega (arith, start_room s.order c.args.k c.block_start-at.result (omega arith) (omega arith) c.block_start-at.ensures)
 
 pub forward-requires : goal.forward-requires
 forward-requires c =
     let a = c.args in
-    record { n_le_max_order = omega arith; matrix_len = simp (length-take, length-drop) (omega (arith, triangle_rest a.shape.order a.k (omega arith))); work_len = omega arith }
+    record {
+      n_le_max_order = omega arith;
+      matrix_len = simp (length-take, length-drop) (omega (arith, triangle_rest a.shape.order a.k (omega arith)));
+      work_len = omega arith;
+    }
 
 pub forward_from-requires : goal.forward_from-requires
 forward_from-requires c =
     let pre = c.requires in
-    let block : T (by_blocks (Solver c.args.layout)) = rw c.in-Blocked.is tt in record { blocks_from = record { order = pre.order; block = pre.block block; before = pre.before; values = pre.matrix_length; rows = pre.work_length }; k_lt_order = pre.inside }
+    let block : T (by_blocks (Solver c.args.layout)) = rw c.in-Blocked.is tt in record {
+      blocks_from = record { order = pre.order; block = pre.block block; before = pre.before; values = pre.matrix_length; rows = pre.work_length };
+      k_lt_order = pre.inside;
+    }
 
 pub returns-in-Packed : goal.returns-in-Packed
 unfolding place_of

@@ -1,6 +1,5 @@
 -- `solve::rhs::solve` meets its contract. Assumes nothing.
 use mathlib.Core.Path.{sym}
-use borrow.Author.Rules.{rules}
 use Rattle.calls.proofs.Judging.{refused_of, accepted_of}
 use Rattle.solve.proofs.Outcomes.{checks_refused, work_fits, part_length, checked, rhs_length_lem, all_done}
 use Rattle.solve.proofs.rhs.solve.Goals as goal
@@ -36,7 +35,7 @@ solve_cleared-verdict-requires c =
 pub returns : goal.returns
 returns c =
     let a = c.args in
-    rw (c.result-2.ensures, c.solve_cleared-verdict.ensures.1)
+    rw (c.result-2.ensures, c.solve_cleared-verdict.ensures.work_after)
     (all_done a.layout a.shape a.m a.matrix.now a.rhs.now a.work.now c.check_solver-checks.result
     c.check_solver-checks.ensures (accepted_of c.accepted.result c.check_solver-checks.result c.accepted.ensures
     c.if-not-accepted.false-raw) c.solve_cleared-verdict.result c.solve_cleared-verdict.new.rhs

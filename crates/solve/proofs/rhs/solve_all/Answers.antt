@@ -1,6 +1,6 @@
 -- `solve::rhs::solve_all` meets its contract. The invariant of its loop: the first q right-hand sides pass and hold their solutions, the others are
 -- as they were. The measure is what is left of m. Assumes nothing.
-use Prim.Native.Nat.{◌+◌, ◌-◌, ◌*◌, ◌≤◌}
+use Prim.Native.Nat.{◌+◌, ◌-◌}
 use native.Mathlib.Omega.{arith}
 use mathlib.Core.Path.{◌≡◌, refl, ap, ◌∙◌, subst}
 use borrow.Author.Rules.{rules}

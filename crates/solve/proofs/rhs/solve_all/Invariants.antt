@@ -1,14 +1,12 @@
 -- `solve::rhs::solve_all` meets its contract. The invariant of its loop: the first q right-hand sides pass and hold their solutions, the others are
 -- as they were. The measure is what is left of m. Assumes nothing.
-use Prim.Native.Nat.{◌+◌, ◌-◌, ◌*◌, ◌≤◌}
-use native.Mathlib.Omega.{arith}
-use mathlib.Core.Path.{◌≡◌, refl, ap, ◌∙◌, subst}
-use borrow.Author.Rules.{rules}
+use Prim.Native.Nat.{◌-◌, ◌*◌, ◌≤◌}
+use mathlib.Core.Path.{◌≡◌}
 use lib.ListN.{length}
 use Rattle.calls.specs.Refusals.{success, lowest_refusal}
 use Rattle.calls.specs.Calls.{solutions}
 use Rattle.solve.specs.Solving.{factor_of}
-use Rattle.solve.proofs.RightSides.{judge_rhs, none_solved, length_solutions, next_within, turn_kept, turn_refused, turn_solved, all_solved, next_at}
+use Rattle.solve.proofs.RightSides.{judge_rhs}
 use Rattle.solve.proofs.rhs.solve_all.Given as goal
 
 abbrev pub invariant-loop-q : goal.invariant-loop-q

@@ -1,7 +1,6 @@
 -- `solve::rhs::solve_one` meets its contract: a solution that passes takes the place of its right-hand side. Assumes nothing.
 use native.Mathlib.Nat.{sub-zero}
 use mathlib.Core.Path.{refl}
-use borrow.Author.Rules.{rules}
 use borrow.Author.Tests.{not-true, not-false}
 use Rattle.solve.proofs.rhs.solve_one.Goals as goal
 

@@ -1,6 +1,5 @@
 -- `solve::rhs::substitute` meets its contract: what is finite decides, and the second substitution ends in the solution. Assumes nothing.
 use Prim.Native.Nat.{◌-◌}
-use borrow.Author.Rules.{rules}
 use Rattle.solve.specs.Solving.{factor_of}
 use Rattle.solve.proofs.RightSides.{refused_forward, substituted}
 use Rattle.solve.proofs.rhs.substitute.Goals as goal

@@ -7,7 +7,7 @@ use lib.ListN.{length, get_or}
 use lib.Ieee.{Float, nan}
 use Rattle.shape.specs.Bounds.{max_order}
 use Rattle.shape.specs.Places.{triangle, block_of, blocked_place}
-use Rattle.shape.proofs.Blocks.{block_of_le, block_of_lt, block_of_block}
+use Rattle.shape.proofs.Blocks.{block_of_lt, block_of_block}
 use Rattle.calls.specs.Arithmetic.{minus_products}
 use Rattle.kernels.specs.Kernels.{RowsBelow}
 use Rattle.solve.proofs.runs.columns.Goals as goal
@@ -23,133 +23,108 @@ module _ (w lanes b h count : ℕ) (part v : List Float) (same : b ≡ lanes) (f
   unfolding block_of
   run = full ∙ ap (λ q. q * (16 / q)) (sym same)
 
-  ready :
-      ((1 < b) × (b < 16) × (block_of b 16 + count ≤ h) × (h ≤ max_order)) × ((triangle h ≤ length part) × (h ≤ length v)) →
-      ((w ≤ 16) × (count ≤ h) × (h ≤ length v)) × RowsBelow 0 h lanes (triangle lanes) w (h - count) count (length part)
-  ready pre = (
-    (omega (arith, run, block_of_le b 16), omega arith, pre.1.1),
-    record {
-      order = pre.0.3;
-      block = omega arith;
-      block_high = omega arith;
-      diagonal = refl;
-      some = omega (arith, run, block_of_lt b 16 (omega arith));
-      whole = rw (sym same, run) (block_of_block b 16 (omega arith));
-      above = omega (arith, run);
-      inside = omega arith;
-      size = omega arith;
-    },
-  )
+  below :
+      (1 < b) × (b < 16) × (block_of b 16 + count ≤ h) × (h ≤ max_order) → (triangle h ≤ length part) × (h ≤ length v) →
+      RowsBelow 0 h lanes (triangle lanes) w (h - count) count (length part)
+  below bounds sizes =
+      record {
+        order = bounds.3;
+        block = omega arith;
+        block_high = omega arith;
+        diagonal = refl;
+        some = omega (arith, run, block_of_lt b 16 (omega arith));
+        whole = rw (sym same, run) (block_of_block b 16 (omega arith));
+        above = omega (arith, run);
+        inside = omega arith;
+        size = omega arith;
+      }
 
   done : (tile t : List Float) → Reduced w lanes part h v count tile t → Reduced (block_of b 16) b part h v count tile t
   done tile t reduced = rw (← run, same) reduced
 
--- the block length in the last arm
-above : (k b : ℕ) → k ≤ b → (b ≡ k → ⊥) → k + 1 ≤ b
-above k b low other = omega arith
-
-fifteen : (c : goal.In_default) → c.args.b ≡ 15
-fifteen c =
-    let b = c.args.b in
-    let r = c.in_default.in_default-own.rest in
-    let l3 : 3 ≤ b = above 2 b (omega arith) r.0.0.0.0.0.0.0.0.0.0.0.0.1 in
-    let l4 : 4 ≤ b = above 3 b l3 r.0.0.0.0.0.0.0.0.0.0.0.1 in
-    let l5 : 5 ≤ b = above 4 b l4 r.0.0.0.0.0.0.0.0.0.0.1 in
-    let l6 : 6 ≤ b = above 5 b l5 r.0.0.0.0.0.0.0.0.0.1 in
-    let l7 : 7 ≤ b = above 6 b l6 r.0.0.0.0.0.0.0.0.1 in
-    let l8 : 8 ≤ b = above 7 b l7 r.0.0.0.0.0.0.0.1 in
-    let l9 : 9 ≤ b = above 8 b l8 r.0.0.0.0.0.0.1 in
-    let l10 : 10 ≤ b = above 9 b l9 r.0.0.0.0.0.1 in
-    let l11 : 11 ≤ b = above 10 b l10 r.0.0.0.0.1 in
-    let l12 : 12 ≤ b = above 11 b l11 r.0.0.0.1 in
-    let l13 : 13 ≤ b = above 12 b l12 r.0.0.1 in
-    let l14 : 14 ≤ b = above 13 b l13 r.0.1 in
-    let l15 : 15 ≤ b = above 14 b l14 r.1 in
-    omega arith
-
-pub reduce_columns-requires : goal.reduce_columns-requires
-reduce_columns-requires c =
+pub reduce_columns-requires-clause-rows_below : goal.reduce_columns-requires-clause-rows_below
+reduce_columns-requires-clause-rows_below c =
     let a = c.args in
     let pre = c.requires in
-    ready 16 2 a.b a.h a.count a.part.now a.work.now c.in-2.is refl pre
+    below 16 2 a.b a.h a.count a.part.now a.work.now c.in-2.is refl pre.lt_b pre.h_in_bounds
 
-pub reduce_columns-requires-in-3 : goal.reduce_columns-requires-in-3
-reduce_columns-requires-in-3 c =
+pub reduce_columns-requires-in-3-clause-rows_below : goal.reduce_columns-requires-in-3-clause-rows_below
+reduce_columns-requires-in-3-clause-rows_below c =
     let a = c.args in
     let pre = c.requires in
-    ready 15 3 a.b a.h a.count a.part.now a.work.now c.in-3.is refl pre
+    below 15 3 a.b a.h a.count a.part.now a.work.now c.in-3.is refl pre.lt_b pre.h_in_bounds
 
-pub reduce_columns-requires-in-4 : goal.reduce_columns-requires-in-4
-reduce_columns-requires-in-4 c =
+pub reduce_columns-requires-in-4-clause-rows_below : goal.reduce_columns-requires-in-4-clause-rows_below
+reduce_columns-requires-in-4-clause-rows_below c =
     let a = c.args in
     let pre = c.requires in
-    ready 16 4 a.b a.h a.count a.part.now a.work.now c.in-4.is refl pre
+    below 16 4 a.b a.h a.count a.part.now a.work.now c.in-4.is refl pre.lt_b pre.h_in_bounds
 
-pub reduce_columns-requires-in-5 : goal.reduce_columns-requires-in-5
-reduce_columns-requires-in-5 c =
+pub reduce_columns-requires-in-5-clause-rows_below : goal.reduce_columns-requires-in-5-clause-rows_below
+reduce_columns-requires-in-5-clause-rows_below c =
     let a = c.args in
     let pre = c.requires in
-    ready 15 5 a.b a.h a.count a.part.now a.work.now c.in-5.is refl pre
+    below 15 5 a.b a.h a.count a.part.now a.work.now c.in-5.is refl pre.lt_b pre.h_in_bounds
 
-pub reduce_columns-requires-in-6 : goal.reduce_columns-requires-in-6
-reduce_columns-requires-in-6 c =
+pub reduce_columns-requires-in-6-clause-rows_below : goal.reduce_columns-requires-in-6-clause-rows_below
+reduce_columns-requires-in-6-clause-rows_below c =
     let a = c.args in
     let pre = c.requires in
-    ready 12 6 a.b a.h a.count a.part.now a.work.now c.in-6.is refl pre
+    below 12 6 a.b a.h a.count a.part.now a.work.now c.in-6.is refl pre.lt_b pre.h_in_bounds
 
-pub reduce_columns-requires-in-7 : goal.reduce_columns-requires-in-7
-reduce_columns-requires-in-7 c =
+pub reduce_columns-requires-in-7-clause-rows_below : goal.reduce_columns-requires-in-7-clause-rows_below
+reduce_columns-requires-in-7-clause-rows_below c =
     let a = c.args in
     let pre = c.requires in
-    ready 14 7 a.b a.h a.count a.part.now a.work.now c.in-7.is refl pre
+    below 14 7 a.b a.h a.count a.part.now a.work.now c.in-7.is refl pre.lt_b pre.h_in_bounds
 
-pub reduce_columns-requires-in-8 : goal.reduce_columns-requires-in-8
-reduce_columns-requires-in-8 c =
+pub reduce_columns-requires-in-8-clause-rows_below : goal.reduce_columns-requires-in-8-clause-rows_below
+reduce_columns-requires-in-8-clause-rows_below c =
     let a = c.args in
     let pre = c.requires in
-    ready 16 8 a.b a.h a.count a.part.now a.work.now c.in-8.is refl pre
+    below 16 8 a.b a.h a.count a.part.now a.work.now c.in-8.is refl pre.lt_b pre.h_in_bounds
 
-pub reduce_columns-requires-in-9 : goal.reduce_columns-requires-in-9
-reduce_columns-requires-in-9 c =
+pub reduce_columns-requires-in-9-clause-rows_below : goal.reduce_columns-requires-in-9-clause-rows_below
+reduce_columns-requires-in-9-clause-rows_below c =
     let a = c.args in
     let pre = c.requires in
-    ready 9 9 a.b a.h a.count a.part.now a.work.now c.in-9.is refl pre
+    below 9 9 a.b a.h a.count a.part.now a.work.now c.in-9.is refl pre.lt_b pre.h_in_bounds
 
-pub reduce_columns-requires-in-10 : goal.reduce_columns-requires-in-10
-reduce_columns-requires-in-10 c =
+pub reduce_columns-requires-in-10-clause-rows_below : goal.reduce_columns-requires-in-10-clause-rows_below
+reduce_columns-requires-in-10-clause-rows_below c =
     let a = c.args in
     let pre = c.requires in
-    ready 10 10 a.b a.h a.count a.part.now a.work.now c.in-10.is refl pre
+    below 10 10 a.b a.h a.count a.part.now a.work.now c.in-10.is refl pre.lt_b pre.h_in_bounds
 
-pub reduce_columns-requires-in-11 : goal.reduce_columns-requires-in-11
-reduce_columns-requires-in-11 c =
+pub reduce_columns-requires-in-11-clause-rows_below : goal.reduce_columns-requires-in-11-clause-rows_below
+reduce_columns-requires-in-11-clause-rows_below c =
     let a = c.args in
     let pre = c.requires in
-    ready 11 11 a.b a.h a.count a.part.now a.work.now c.in-11.is refl pre
+    below 11 11 a.b a.h a.count a.part.now a.work.now c.in-11.is refl pre.lt_b pre.h_in_bounds
 
-pub reduce_columns-requires-in-12 : goal.reduce_columns-requires-in-12
-reduce_columns-requires-in-12 c =
+pub reduce_columns-requires-in-12-clause-rows_below : goal.reduce_columns-requires-in-12-clause-rows_below
+reduce_columns-requires-in-12-clause-rows_below c =
     let a = c.args in
     let pre = c.requires in
-    ready 12 12 a.b a.h a.count a.part.now a.work.now c.in-12.is refl pre
+    below 12 12 a.b a.h a.count a.part.now a.work.now c.in-12.is refl pre.lt_b pre.h_in_bounds
 
-pub reduce_columns-requires-in-13 : goal.reduce_columns-requires-in-13
-reduce_columns-requires-in-13 c =
+pub reduce_columns-requires-in-13-clause-rows_below : goal.reduce_columns-requires-in-13-clause-rows_below
+reduce_columns-requires-in-13-clause-rows_below c =
     let a = c.args in
     let pre = c.requires in
-    ready 13 13 a.b a.h a.count a.part.now a.work.now c.in-13.is refl pre
+    below 13 13 a.b a.h a.count a.part.now a.work.now c.in-13.is refl pre.lt_b pre.h_in_bounds
 
-pub reduce_columns-requires-in-14 : goal.reduce_columns-requires-in-14
-reduce_columns-requires-in-14 c =
+pub reduce_columns-requires-in-14-clause-rows_below : goal.reduce_columns-requires-in-14-clause-rows_below
+reduce_columns-requires-in-14-clause-rows_below c =
     let a = c.args in
     let pre = c.requires in
-    ready 14 14 a.b a.h a.count a.part.now a.work.now c.in-14.is refl pre
+    below 14 14 a.b a.h a.count a.part.now a.work.now c.in-14.is refl pre.lt_b pre.h_in_bounds
 
-pub reduce_columns-requires-in_default : goal.reduce_columns-requires-in_default
-reduce_columns-requires-in_default c =
+pub reduce_columns-requires-in_default-clause-rows_below : goal.reduce_columns-requires-in_default-clause-rows_below
+reduce_columns-requires-in_default-clause-rows_below c =
     let a = c.args in
     let pre = c.requires in
-    ready 15 15 a.b a.h a.count a.part.now a.work.now (fifteen c) refl pre
+    below 15 15 a.b a.h a.count a.part.now a.work.now (omega arith) refl pre.lt_b pre.h_in_bounds
 
 pub returns-in-2 : goal.returns-in-2
 returns-in-2 c =
@@ -232,5 +207,5 @@ returns-in-14 c =
 pub returns-in_default : goal.returns-in_default
 returns-in_default c =
     let a = c.args in
-    done 15 15 a.b a.h a.count a.part.now a.work.now (fifteen c.before) refl a.tile c.reduce_columns-in_default.result
+    done 15 15 a.b a.h a.count a.part.now a.work.now (omega arith) refl a.tile c.reduce_columns-in_default.result
     c.reduce_columns-in_default.ensures

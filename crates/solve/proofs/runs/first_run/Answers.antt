@@ -1,7 +1,6 @@
 -- `solve::runs::first_run` meets its contract. Assumes nothing.
 use mathlib.Core.Path.{refl, ap, ◌∙◌}
 use Rattle.shape.specs.Places.{triangle}
-use borrow.Author.Rules.{rules}
 use Rattle.solve.proofs.runs.first_run.Goals as goal
 
 pub new-requires : goal.new-requires

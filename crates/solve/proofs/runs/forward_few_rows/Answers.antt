@@ -3,14 +3,14 @@ use Prim.Native.Nat.{◌+◌, ◌-◌}
 use native.Mathlib.Omega.{arith}
 use mathlib.Core.Path.{◌≡◌}
 use Rattle.solve.proofs.RunTurns.{run_rows, tile_rows}
-use borrow.Author.Rules.{rules}
 use Rattle.solve.proofs.runs.forward_few_rows.Goals as goal
 
 pub reduce_run-less-requires : goal.reduce_run-less-requires
 reduce_run-less-requires c =
     let a = c.args in record {
       rows_nonzero = (omega arith, omega arith, omega (arith, c.first_run.ensures.columns));
-      rows_below = run_rows a.h a.b a.w a.part.now a.work.now c.requires.block_run c.first_run.result a.w (a.h - a.w) c.first_run.ensures c.requires.w_lt_h.0
+      rows_below = run_rows a.h a.b a.w a.part.now a.work.now c.requires.block_run c.first_run.result a.w (a.h - a.w) c.first_run.ensures
+          c.requires.w_lt_h.0
           (omega arith) (omega arith);
     }
 

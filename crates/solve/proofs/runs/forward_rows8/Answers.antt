@@ -1,7 +1,6 @@
 -- `solve::runs::forward_rows8` meets its contract. Assumes nothing.
 use native.Mathlib.Omega.{arith}
 use Rattle.solve.proofs.RunTurns.{run_rows, tile_rows}
-use borrow.Author.Rules.{rules}
 use Rattle.solve.proofs.runs.forward_rows8.Goals as goal
 
 pub reduce_run-less-requires : goal.reduce_run-less-requires

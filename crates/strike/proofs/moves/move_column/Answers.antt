@@ -1,13 +1,10 @@
--- `strike::moves::move_column` meets its contract. The loop's invariant: the values of the first k rows are moved. The measure is the number of rows left.
--- Assumes nothing.
-use Prim.Native.Nat.{◌+◌, ◌-◌, ◌≤◌}
+-- `strike::moves::move_column` meets its contract. Assumes nothing.
+use Prim.Native.Nat.{◌+◌, ◌-◌}
 use native.Mathlib.Omega.{arith}
 use mathlib.Core.Path.{◌≡◌}
 use lib.ListN.{length}
 use lib.Ieee.{nan}
-use Rattle.kernels.specs.Kernels.{Filled}
 use Rattle.kernels.proofs.Parts.{filled_none}
-use Rattle.strike.specs.Rows.{rows_at}
 use Rattle.strike.proofs.Rows.{ahead_part, moved_next}
 use Rattle.strike.proofs.moves.move_column.Goals as goal
 

@@ -1,12 +1,8 @@
 -- `strike::moves::move_values` meets its contract. The loop's invariant: the first k values stand where they go, and all else is as it was; so is the next
 -- value to be read, which stands at the place that is written next or behind it. The measure is the number of values left. Assumes nothing.
-use Prim.Native.Nat.{◌+◌, ◌-◌, ◌≤◌, ◌<◌}
-use native.Mathlib.Omega.{arith}
-use mathlib.Core.Path.{◌≡◌}
-use lib.ListN.{length, get_or}
+use Prim.Native.Nat.{◌-◌, ◌≤◌}
 use lib.Ieee.{nan}
 use Rattle.kernels.specs.Kernels.{Filled}
-use Rattle.kernels.proofs.Parts.{filled_none, filled_next}
 use Rattle.strike.specs.Rows.{rows_at}
 use Rattle.strike.proofs.moves.move_values.Given as goal
 

@@ -1,13 +1,11 @@
--- `strike::rules::check_list` meets its contract. The loop's invariant: no position before p refuses, and `next` is one more than the unknown before p, or 0. The
--- measure is the number of positions left. Assumes nothing.
-use Prim.Native.Nat.{ℕ, zero, suc, ◌+◌, ◌-◌, ◌≤◌, ◌<◌}
+-- `strike::rules::check_list` meets its contract. Assumes nothing.
+use Prim.Native.Nat.{ℕ, zero, suc, ◌+◌, ◌<◌}
 use native.Mathlib.Numerals.{add-one}
 use native.Mathlib.Omega.{arith}
 use native.Mathlib.Decide.{dec_lt}
 use mathlib.Core.Path.{◌≡◌, refl, sym, ap, ap₂, ◌∙◌}
 use mathlib.Core.Bool.{Bool, true, false, not, ◌&&◌, ◌||◌, and-true}
 use mathlib.Core.List.{List}
-use borrow.Author.Rules.{rules}
 use borrow.Author.Tests.{lt-ltb, le-ltb, leb-false}
 use lib.Dec.{leb, ltb}
 use lib.ListN.{length, get_or}
@@ -15,6 +13,7 @@ use Rattle.binary64.specs.Kinds.{zero64}
 use Rattle.calls.specs.Refusals.{success, accepted, refusal, lowest_refusal, rises_at, rule20}
 use Rattle.calls.proofs.Judging.{not_leb, lowest_next, lowest_found}
 use Rattle.strike.proofs.Strikes.{listed_at}
+use Rattle.strike.proofs.rules.check_list.Invariants.{Following}
 use Rattle.strike.proofs.rules.check_list.Goals as goal
 
 -- ---- the test of one position
@@ -33,11 +32,6 @@ not_below_next y u =
       | yes p ↦ rw (le-ltb u (y + 1) (omega arith), lt-ltb y u p)
       | no p ↦ rw (lt-ltb u (y + 1) (omega arith), le-ltb y u (omega arith))
     ]
-
--- one more than the unknown before position p, or 0
-record Following (list : List ℕ) (p next : ℕ) : Type 0 where
-  first : p ≡ 0 → next ≡ 0
-  later : (x : ℕ) → x + 1 ≡ p → next ≡ get_or list x 0 + 1
 
 rises_test : (n : ℕ) (list : List ℕ) (p next : ℕ) → Following list p next → not (leb n (get_or list p 0) || ltb (get_or list p 0) next) ≡ rises_at n list p
 unfolding rises_at
@@ -78,14 +72,11 @@ returns-then-n-u c =
     ∙ sym (rises_found a.n a.list.now c.loop-p.p c.loop-p.next c.loop-p.invariant.2 c.loop-p.invariant.1 c.loop-p-test.true c.if-n-u.true)
 
 -- the unknown is below n
-unknown_below : (c : goal.Else-n-u) → get_or c.args.list.now c.loop-p.p 0 < c.args.n
-unknown_below c =
+pub overflow_add-next : goal.overflow_add-next
+overflow_add-next c =
     let a = c.args in
     let u = get_or a.list.now c.loop-p.p 0 in
-    leb-false a.n u (left_or (leb a.n u) (ltb u c.loop-p.next) c.if-n-u.false)
-
-pub overflow_add-next : goal.overflow_add-next
-overflow_add-next c = omega (arith, unknown_below c)
+    omega (arith, leb-false a.n u (left_or (leb a.n u) (ltb u c.loop-p.next) c.if-n-u.false))
 
 pub loop-p-preserved : goal.loop-p-preserved
 loop-p-preserved c =
