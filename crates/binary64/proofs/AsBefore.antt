@@ -10,7 +10,7 @@ use lib.Pow.{pow_pos, split}
 use lib.IntN.{ℤ}
 use lib.Ieee.{Float, nan, inf, fin, binary64, lt, to_bits, of_bits, fits}
 use lib.Ieee.Bits.{is_true}
-use lib.Ieee.Scale.{finite as libraryFinite}
+use lib.Ieee.Scale.{finite as library_is_finite}
 use borrow.Author.Tests.{ne_eqb}
 use Rattle.binary64.specs.declared.Pivot.TheVariants.{Root, Refused}
 use Rattle.binary64.specs.declared.kinds.Kind.{Kind}
@@ -38,7 +38,7 @@ former_root (fin true (suc m) e) = nan
 former_root (fin false (suc m) e) = of_bits binary64 (former_root_bits (to_bits binary64 (fin false (suc m) e)))
 
 pub record AsBefore (x : Float) : Type 0 where
-  pub finite_as : finite x ≡ libraryFinite x
+  pub finite_as : finite x ≡ library_is_finite x
   pub positive_as : positive x ≡ lt zero64 x
   pub root_as : root x ≡ former_root x
   pub judged_as : judged x ≡ cond (lt zero64 x) (Root (former_root x) (exact x)) (Refused x)

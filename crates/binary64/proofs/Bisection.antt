@@ -1,4 +1,4 @@
--- Bisection finds the one pattern that meets document 01's rule: the squares of lower midpoints grow with the pattern, and `rootBits` is the last whose
+-- Bisection finds the one pattern that meets document 01's rule: the squares of lower midpoints grow with the pattern, and `root_bits` is the last whose
 -- square is below the argument. Assumes nothing.
 use mathlib.Core.Path.{◌≡◌, refl, sym, ap, ◌∙◌, subst}
 use mathlib.Core.Bool.{Bool, true, false, cond}

@@ -14,7 +14,7 @@ use lib.Ieee.Digits.{back}
 use lib.Ieee.Fits.{down_pos, and_l, and_r, round_is}
 use lib.Ieee.Exact.{HasValue, odd_sign, round_exact}
 use lib.Ieee.Order.{round_mono}
-use lib.Ieee.Scale.{finite as libraryFinite}
+use lib.Ieee.Scale.{finite as library_is_finite}
 use Rattle.binary64.specs.Kinds.{finite, positive}
 use Rattle.binary64.proofs.Values.{finite_library, library_finite, library_of_value}
 
@@ -37,7 +37,7 @@ below_finite (inf true) f h p = absurd p
 below_finite (inf false) f h p = absurd h
 below_finite (fin s m e) f h p = library_finite (fin s m e) f tt
 
-library_below : (x : Float) → T (libraryFinite x) → T (below_infinity x)
+library_below : (x : Float) → T (library_is_finite x) → T (below_infinity x)
 unfolding below_infinity lt
 library_below nan h = absurd h
 library_below (inf s) h = absurd h
@@ -46,7 +46,7 @@ library_below (fin s m e) h = tt
 pub finite_below_lem : (x : Float) → T (finite x) → T (below_infinity x)
 finite_below_lem x h = library_below x (finite_library x h)
 
-below_of_le : (x y : Float) → T (le x y) → T (libraryFinite y) → T (below_infinity x)
+below_of_le : (x y : Float) → T (le x y) → T (library_is_finite y) → T (below_infinity x)
 unfolding below_infinity le
 below_of_le nan y h k = absurd h
 below_of_le (inf true) y h k = tt
@@ -79,7 +79,7 @@ units_sign f s q k = go (ltb (q * 2 ^ k) (2 ^ (low f + suc (emax f))))
 round_sign : (f : Format) (s : Bool) (a c : ℕ) → HasSign (round f s a c) s
 round_sign f s a c = rw round_is (units_sign f s _ _)
 
-square_sign : (f : Format) (x : Float) → T (libraryFinite x) → HasSign (mul f x x) false
+square_sign : (f : Format) (x : Float) → T (library_is_finite x) → HasSign (mul f x x) false
 unfolding mul
 square_sign f nan h = absurd h
 square_sign f (inf s) h = absurd h

@@ -16,18 +16,18 @@ use denote.Enum.Declared.{tag_of}
 use borrow.Author.Tests.{lt-ltb, ne_eqb, eqb-true, eqb-false}
 use Rattle.binary64.specs.declared.kinds.Kind.{Kind}
 use Rattle.binary64.specs.declared.kinds.Kind.TheVariants.{Zero, Subnormal, Normal, Infinite, NaN}
-use Rattle.binary64.specs.Kinds.{exponent_field, fraction, FieldKind, allZeros, between, allOnes, field_kind, FractionKind, zeroFraction, nonzeroFraction, fraction_kind, kind_of, kind_of_fields, kind_of_bits, kind}
+use Rattle.binary64.specs.Kinds.{exponent_field, fraction, FieldKind, all_zeros, between, all_ones, field_kind, FractionKind, zero_fraction, nonzero_fraction, fraction_kind, kind_of, kind_of_fields, kind_of_bits, kind}
 use Rattle.binary64.specs.contracts.kinds.Kind.{the_type}
 
 -- ---- the kind of a field x and a fraction t
 
-some_fraction : (t : ℕ) → 0 < t → fraction_kind t ≡ nonzeroFraction
+some_fraction : (t : ℕ) → 0 < t → fraction_kind t ≡ nonzero_fraction
 unfolding fraction_kind
 some_fraction t h = rw (ne_eqb t 0 (λ e. omega arith))
 
 between_field : (x : ℕ) → 1 ≤ x → x ≤ 2046 → field_kind x ≡ between
 unfolding field_kind
-between_field x low high = rw (ne_eqb x 0 (λ e. omega arith)) (ap (λ (b : Bool). cond b between allOnes) (lt-ltb x _ (omega arith)))
+between_field x low high = rw (ne_eqb x 0 (λ e. omega arith)) (ap (λ (b : Bool). cond b between all_ones) (lt-ltb x _ (omega arith)))
 
 pub kind_zero : kind_of_fields 0 0 ≡ Zero
 unfolding kind_of_fields
@@ -42,8 +42,8 @@ unfolding kind_of_fields
 kind_normal x low high t = rw (between_field x low high) (go (fraction_kind t))
   where
     go : (k : FractionKind) → kind_of between k ≡ Normal
-    go zeroFraction = refl
-    go nonzeroFraction = refl
+    go zero_fraction = refl
+    go nonzero_fraction = refl
 
 pub kind_infinite : kind_of_fields 2047 0 ≡ Infinite
 unfolding kind_of_fields
@@ -106,13 +106,13 @@ other_arm tags κ other n h e = miss tags (tag_of the_type other) n (subst (λ k
 -- ---- every pattern falls under exactly one case, whose row gives its kind, and that is the kind of its numbers
 
 abbrev pub InField : FieldKind → ℕ → Type 0
-InField allZeros x = x ≡ 0
+InField all_zeros x = x ≡ 0
 InField between x = (1 ≤ x) × (x ≤ 2046)
-InField allOnes x = x ≡ 2047
+InField all_ones x = x ≡ 2047
 
 abbrev pub InFraction : FractionKind → ℕ → Type 0
-InFraction zeroFraction t = t ≡ 0
-InFraction nonzeroFraction t = 0 < t
+InFraction zero_fraction t = t ≡ 0
+InFraction nonzero_fraction t = 0 < t
 
 pub record Under (p : ℕ) (f : FieldKind) (k : FractionKind) : Type 0 where
   pub in_field : InField f (exponent_field p)
@@ -136,9 +136,9 @@ in_field_lem (suc x) h = elim (dec_le (suc x) 2046) [
 
 only_field : (x : ℕ) (f : FieldKind) → InField f x → f ≡ field_kind x
 unfolding field_kind
-only_field x allZeros h = rw h refl
+only_field x all_zeros h = rw h refl
 only_field x between h = sym (between_field x h.0 h.1)
-only_field x allOnes h = rw h refl
+only_field x all_ones h = rw h refl
 
 in_fraction_lem : (t : ℕ) → InFraction (fraction_kind t) t
 unfolding fraction_kind
@@ -147,8 +147,8 @@ in_fraction_lem (suc t) = let some : 0 < suc t = omega arith in rw (some_fractio
 
 only_fraction : (t : ℕ) (k : FractionKind) → InFraction k t → k ≡ fraction_kind t
 unfolding fraction_kind
-only_fraction t zeroFraction h = rw h refl
-only_fraction t nonzeroFraction h = sym (some_fraction t h)
+only_fraction t zero_fraction h = rw h refl
+only_fraction t nonzero_fraction h = sym (some_fraction t h)
 
 pub one_case : (p : ℕ) → OneCase p
 unfolding exponent_field kind_of_bits

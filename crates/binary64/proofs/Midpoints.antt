@@ -1,4 +1,4 @@
--- Document 01's rule for the root, as theorems about `rootBits`, for every positive finite pattern: its root meets the rule, strictly on both sides, and
+-- Document 01's rule for the root, as theorems about `root_bits`, for every positive finite pattern: its root meets the rule, strictly on both sides, and
 -- nothing else does. At a power of two the gap below is half the gap above. Assumes nothing.
 use mathlib.Core.Path.{◌≡◌, ap, ◌∙◌, subst}
 use mathlib.Core.Logic.{inr}

@@ -11,7 +11,7 @@ use lib.Ieee.Bits.{is_true, of_bits-fits, to_bits-of_bits, nan_bits_is}
 use lib.Ieee.Exact.{HasValue}
 use lib.Ieee.Fits.{up_pos}
 use lib.Ieee.Positive as ieee
-use lib.Ieee.Scale.{finite as libraryFinite}
+use lib.Ieee.Scale.{finite as library_is_finite}
 use lib.Ieee.Positive.{first_pos}
 use Rattle.binary64.specs.declared.kinds.Kind.{Kind}
 use Rattle.binary64.specs.declared.kinds.Kind.TheVariants.{Zero, Subnormal, Normal}
@@ -24,7 +24,7 @@ use Rattle.binary64.proofs.Values.{Value, zero_value, subnormal_value, normal_va
 
 -- ---- greater than zero and finite
 
-positive_library : (x : Float) → T (libraryFinite x) → T (positive x) → T (ieee.positive x)
+positive_library : (x : Float) → T (library_is_finite x) → T (positive x) → T (ieee.positive x)
 unfolding positive lt
 positive_library nan f h = absurd f
 positive_library (inf s) f h = absurd f

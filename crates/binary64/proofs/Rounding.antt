@@ -1,4 +1,4 @@
--- From an integer root of 54 digits to the root's pattern: it meets document 01's rule, so it is `rootBits`, and it is exact where the integer root leaves
+-- From an integer root of 54 digits to the root's pattern: it meets document 01's rule, so it is `root_bits`, and it is exact where the integer root leaves
 -- nothing. Assumes nothing.
 use mathlib.Core.Path.{◌≡◌, refl, sym, ap, ◌∙◌, subst}
 use mathlib.Core.Logic.{◌⊎◌, inl, inr}

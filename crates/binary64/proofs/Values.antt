@@ -13,7 +13,7 @@ use lib.Ieee.Fits.{down_pos}
 use lib.Ieee.Exact.{HasValue, odd_sign}
 use lib.Ieee.Bits.{of_bits-to_bits, to_bits-lt, nan_bits_is}
 use lib.Ieee.Positive.{positive}
-use lib.Ieee.Scale.{finite as libraryFinite}
+use lib.Ieee.Scale.{finite as library_is_finite}
 use borrow.Author.Tests.{lt-leb, leb-false, ne_eqb, eqb-false}
 use Rattle.binary64.specs.declared.kinds.Kind.{Kind}
 use Rattle.binary64.specs.declared.kinds.Kind.TheVariants.{Zero, Subnormal, Normal, Infinite, NaN}
@@ -138,16 +138,16 @@ number_of_kind (fin s m e) n = tt
 
 -- ---- finite, by kind and by the library's test
 
-pub library_of_value : (x : Float) (s : Bool) (a c : ℕ) → HasValue x s a c → T (libraryFinite x)
+pub library_of_value : (x : Float) (s : Bool) (a c : ℕ) → HasValue x s a c → T (library_is_finite x)
 library_of_value nan s a c v = absurd v
 library_of_value (inf t) s a c v = absurd v
 library_of_value (fin t m e) s a c v = tt
 
-pub finite_as_lem : (x : Float) → T (fits binary64 x) → finite x ≡ libraryFinite x
+pub finite_as_lem : (x : Float) → T (fits binary64 x) → finite x ≡ library_is_finite x
 unfolding finite
 finite_as_lem x f = go x (kind x) (value_case x f)
   where
-    go : (x : Float) (κ : Kind) → Value x κ → finite_kind κ ≡ libraryFinite x
+    go : (x : Float) (κ : Kind) → Value x κ → finite_kind κ ≡ library_is_finite x
     go x κ zero_value = refl
     go x κ subnormal_value = refl
     go x κ normal_value = refl
@@ -155,12 +155,12 @@ finite_as_lem x f = go x (kind x) (value_case x f)
     go x κ nan_value = refl
 
 -- this way of every float, whether the format holds it or not
-pub finite_library : (x : Float) → T (finite x) → T (libraryFinite x)
+pub finite_library : (x : Float) → T (finite x) → T (library_is_finite x)
 unfolding finite kind
 finite_library nan h = h
 finite_library (inf true) h = h
 finite_library (inf false) h = h
 finite_library (fin s m e) h = tt
 
-pub library_finite : (x : Float) → T (fits binary64 x) → T (libraryFinite x) → T (finite x)
+pub library_finite : (x : Float) → T (fits binary64 x) → T (library_is_finite x) → T (finite x)
 library_finite x f h = subst T (sym (finite_as_lem x f)) h

@@ -9,7 +9,7 @@ use lib.IntN.{pos}
 use lib.Dec.{T, ltb→lt, eqb-suc-zero}
 use lib.Ieee.{Float, nan, inf, fin, binary64, up, down, round, sub, mul, div, lt, unlike}
 use lib.Ieee.Fits.{up_pos, down_pos}
-use lib.Ieee.Scale.{round_same, finite as libraryFinite}
+use lib.Ieee.Scale.{round_same, finite as library_is_finite}
 use Rattle.binary64.specs.Kinds.{finite, zero64, one64, positive}
 use Rattle.binary64.proofs.Values.{finite_library}
 
@@ -25,7 +25,7 @@ zero_over_one false = refl
 round_zero : (s : Bool) (num den : ℕ) → num ≡ 0 → 0 < den → round binary64 s num den ≡ zero_of s
 round_zero s num den e h = round_same binary64 s num den 0 1 h (omega arith) (omega arith) ∙ zero_over_one s
 
-product_zero : (x : Float) → T (libraryFinite x) → (s : Bool) × (mul binary64 x zero64 ≡ zero_of s)
+product_zero : (x : Float) → T (library_is_finite x) → (s : Bool) × (mul binary64 x zero64 ≡ zero_of s)
 unfolding mul
 product_zero nan h = absurd h
 product_zero (inf s) h = absurd h

@@ -14,26 +14,26 @@ fraction p = p % 2 ^ 52
 
 -- the kinds of an exponent field: 0, 1 to 2046, 2047
 pub data FieldKind : Type 0 where
-  allZeros between allOnes : FieldKind
+  all_zeros between all_ones : FieldKind
 
 unfoldable pub field_kind : ℕ → FieldKind
-field_kind x = cond (eqb x 0) allZeros (cond (ltb x 2047) between allOnes)
+field_kind x = cond (eqb x 0) all_zeros (cond (ltb x 2047) between all_ones)
 
 -- the kinds of a fraction
 pub data FractionKind : Type 0 where
-  zeroFraction nonzeroFraction : FractionKind
+  zero_fraction nonzero_fraction : FractionKind
 
 unfoldable pub fraction_kind : ℕ → FractionKind
-fraction_kind t = cond (eqb t 0) zeroFraction nonzeroFraction
+fraction_kind t = cond (eqb t 0) zero_fraction nonzero_fraction
 
 -- IEEE 754's table
 unfoldable pub kind_of : FieldKind → FractionKind → Kind
-kind_of allZeros zeroFraction = Zero
-kind_of allZeros nonzeroFraction = Subnormal
-kind_of between zeroFraction = Normal
-kind_of between nonzeroFraction = Normal
-kind_of allOnes zeroFraction = Infinite
-kind_of allOnes nonzeroFraction = NaN
+kind_of all_zeros zero_fraction = Zero
+kind_of all_zeros nonzero_fraction = Subnormal
+kind_of between zero_fraction = Normal
+kind_of between nonzero_fraction = Normal
+kind_of all_ones zero_fraction = Infinite
+kind_of all_ones nonzero_fraction = NaN
 
 unfoldable pub kind_of_fields : ℕ → ℕ → Kind
 unfolding kind_of field_kind fraction_kind

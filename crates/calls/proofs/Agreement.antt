@@ -224,7 +224,7 @@ work_enough (suc k) b low =
 abbrev passed : Shape → CallResult
 passed shape = record { code = 0; place = 0; value = zero64; exact = false; shape = shape }
 
-module _ (n b m : ℕ) (matrix rhs plainWork blockedWork : List Float) (v : T (all (fits binary64) matrix)) (s : Start n b m matrix rhs plainWork blockedWork) where
+module _ (n b m : ℕ) (matrix rhs plain_work blocked_work : List Float) (v : T (all (fits binary64) matrix)) (s : Start n b m matrix rhs plain_work blocked_work) where
   -- the matrix, its verdict, what its factors return, and its factor where that is accepted
   abbrev pub a : Triangle
   a = load (place_of Packed n b) (height n) n matrix
@@ -257,16 +257,16 @@ module _ (n b m : ℕ) (matrix rhs plainWork blockedWork : List Float) (v : T (a
       matrix_given.finites matrix s.matrix_length
 
   abbrev pub cleared_work : List Float
-  cleared_work = clear (block_work n b) blockedWork
+  cleared_work = clear (block_work n b) blocked_work
 
-  pub cleared_length : length cleared_work ≡ length blockedWork
-  cleared_length = length_clear (block_work n b) blockedWork s.blocked_work_length
+  pub cleared_length : length cleared_work ≡ length blocked_work
+  cleared_length = length_clear (block_work n b) blocked_work s.blocked_work_length
 
   pub plain_factor_lem :
-      factorize Packed (packed_raw n b) matrix plainWork
-      ≡ record { result = factor_result Packed; matrix = store (place_of Packed n b) (columns n a (finished Packed n b verdict)) matrix; work = clear n plainWork }
+      factorize Packed (packed_raw n b) matrix plain_work
+      ≡ record { result = factor_result Packed; matrix = store (place_of Packed n b) (columns n a (finished Packed n b verdict)) matrix; work = clear n plain_work }
   plain_factor_lem =
-      factor_free n b m s.order s.block_low s.block_high s.rhs_count Packed a matrix plainWork refl s.matrix_length s.matrix_finite
+      factor_free n b m s.order s.block_low s.block_high s.rhs_count Packed a matrix plain_work refl s.matrix_length s.matrix_finite
       s.plain_work_length
 
   blocked_factor :
@@ -281,29 +281,29 @@ module _ (n b m : ℕ) (matrix rhs plainWork blockedWork : List Float) (v : T (a
       (omega (arith, cleared_length, s.blocked_work_length))
 
   pub there :
-      rearrange Packed Blocked (packed_raw n b) matrix blockedWork
+      rearrange Packed Blocked (packed_raw n b) matrix blocked_work
       ≡ record { result = passed (in_state (Raw Blocked) n b); matrix = in_blocks; work = cleared_work }
   unfolding state_after look_up
   there =
-      rearrange_free Packed Blocked (packed_raw n b) matrix blockedWork
+      rearrange_free Packed Blocked (packed_raw n b) matrix blocked_work
       (record { order = s.order; block_low = s.block_low; block_high = s.block_high; state = tt; matrix = s.matrix_length; work = s.blocked_work_length })
 
-  plain_result : (plain_pipeline n b m matrix rhs plainWork).factor_result ≡ factor_result Packed
+  plain_result : (plain_pipeline n b m matrix rhs plain_work).factor_result ≡ factor_result Packed
   unfolding plain_pipeline
   plain_result = rw plain_factor_lem (cond_both (λ (e : Ended). e.factor_result ≡ factor_result Packed) (accepted verdict) _ _ refl refl)
 
-  blocked_result : (blocked_pipeline n b m matrix rhs blockedWork).factor_result ≡ factor_result Blocked
+  blocked_result : (blocked_pipeline n b m matrix rhs blocked_work).factor_result ≡ factor_result Blocked
   unfolding blocked_pipeline
   blocked_result = rw (there, blocked_factor) (cond_both (λ (e : Ended). e.factor_result ≡ factor_result Blocked) (accepted verdict) _ _ refl refl)
 
   -- ---- a refused factor: both memories are spent
 
   module _ (e : accepted verdict ≡ false) where
-    plain_spent : (plain_pipeline n b m matrix rhs plainWork).shape ≡ in_state Spent n b
+    plain_spent : (plain_pipeline n b m matrix rhs plain_work).shape ≡ in_state Spent n b
     unfolding plain_pipeline
     plain_spent = rw (plain_factor_lem, e) (ap (λ k. record { order = n; block = b; state = k }) (state_spent (Factor Packed) 0 verdict e (columns_spend n a e)))
 
-    blocked_spent : (blocked_pipeline n b m matrix rhs blockedWork).shape ≡ in_state Spent n b
+    blocked_spent : (blocked_pipeline n b m matrix rhs blocked_work).shape ≡ in_state Spent n b
     unfolding blocked_pipeline
     blocked_spent =
         rw (there, blocked_factor, e) (ap (λ k. record { order = n; block = b; state = k }) (state_spent (Factor Blocked) 1 verdict e (columns_spend n a e)))
@@ -322,8 +322,8 @@ module _ (n b m : ℕ) (matrix rhs plainWork blockedWork : List Float) (v : T (a
 
     -- both factors, where they are accepted: the blocked one is the plain one rearranged
     pub plain_accepted :
-        factorize Packed (packed_raw n b) matrix plainWork
-        ≡ record { result = factor_result Packed; matrix = store (place_of Packed n b) factor_of matrix; work = clear n plainWork }
+        factorize Packed (packed_raw n b) matrix plain_work
+        ≡ record { result = factor_result Packed; matrix = store (place_of Packed n b) factor_of matrix; work = clear n plain_work }
     plain_accepted = rw (all_finished Packed n b verdict t) at plain_factor_lem
 
     pub blocked_accepted :
@@ -346,8 +346,8 @@ module _ (n b m : ℕ) (matrix rhs plainWork blockedWork : List Float) (v : T (a
         ∙ ap (λ mem. record { result = factor_result Blocked; matrix = mem; work = clear (block_work n b) cleared_work }) same
 
     plain_ended_lem :
-        plain_pipeline n b m matrix rhs plainWork
-        ≡ (let d = free_solved n m factor_of rhs (clear n plainWork) in
+        plain_pipeline n b m matrix rhs plain_work
+        ≡ (let d = free_solved n m factor_of rhs (clear n plain_work) in
         record {
           factor_result = factor_result Packed;
           solver_result = result_of (Solver Packed) (in_state (Factored Packed) n b) d.verdict;
@@ -364,8 +364,8 @@ module _ (n b m : ℕ) (matrix rhs plainWork blockedWork : List Float) (v : T (a
           is_true (accepted verdict) t,
           factor_state Packed n a t,
           solve_free n b m s.order s.block_low s.block_high s.rhs_count Packed factor_of factor_shaped factor_finite matrix s.matrix_length rhs
-              (clear n plainWork) s.rhs_length (omega (arith, length_clear n plainWork s.plain_work_length, s.plain_work_length)),
-          solver_keeps Packed (free_solved n m factor_of rhs (clear n plainWork)).verdict (free_keeps n m factor_of rhs (clear n plainWork)),
+              (clear n plain_work) s.rhs_length (omega (arith, length_clear n plain_work s.plain_work_length, s.plain_work_length)),
+          solver_keeps Packed (free_solved n m factor_of rhs (clear n plain_work)).verdict (free_keeps n m factor_of rhs (clear n plain_work)),
         )
         refl
 
@@ -378,7 +378,7 @@ module _ (n b m : ℕ) (matrix rhs plainWork blockedWork : List Float) (v : T (a
     blocks_length : length factor_blocks ≡ triangle n
     blocks_length = length_store (place_of Blocked n b) n (layout_bijection Blocked n b s.block_low) factor_of in_blocks ∙ moved_length
 
-    work_length_lem : length solved_blocks.work ≡ length blockedWork
+    work_length_lem : length solved_blocks.work ≡ length blocked_work
     work_length_lem =
         let twice : length (clear (block_work n b) cleared_work) ≡ length cleared_work =
         length_clear (block_work n b) cleared_work (omega (arith, cleared_length, s.blocked_work_length))
@@ -414,7 +414,7 @@ module _ (n b m : ℕ) (matrix rhs plainWork blockedWork : List Float) (v : T (a
         })
 
     blocked_ended_lem :
-        blocked_pipeline n b m matrix rhs blockedWork
+        blocked_pipeline n b m matrix rhs blocked_work
         ≡ record {
           factor_result = factor_result Blocked;
           solver_result = result_of (Solver Blocked) (in_state (Factored Blocked) n b) solved_blocks.verdict;
@@ -499,12 +499,12 @@ pipelines_agree n b m matrix rhs pw bw v s =
 
 -- the start's premises are document 01's numbers and lengths, and ask nothing of right-hand sides and work but their lengths
 pub start_of :
-    (n b m : ℕ) (matrix rhs plainWork blockedWork : List Float) →
+    (n b m : ℕ) (matrix rhs plain_work blocked_work : List Float) →
     n ≤ 4000 → 1 ≤ b → b ≤ 200 → m ≤ 1000 →
-    length matrix ≡ n * (n + 1) / 2 → T (all finite matrix) → length rhs ≡ n * m → n ≤ length plainWork → n * min n b ≤ length blockedWork →
-    Start n b m matrix rhs plainWork blockedWork
+    length matrix ≡ n * (n + 1) / 2 → T (all finite matrix) → length rhs ≡ n * m → n ≤ length plain_work → n * min n b ≤ length blocked_work →
+    Start n b m matrix rhs plain_work blocked_work
 unfolding triangle block_work
-start_of n b m matrix rhs plainWork blockedWork h1 h2 h3 h4 h5 h6 h7 h8 h9 =
+start_of n b m matrix rhs plain_work blocked_work h1 h2 h3 h4 h5 h6 h7 h8 h9 =
     record {
       order = h1;
       block_low = h2;

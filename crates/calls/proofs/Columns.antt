@@ -110,11 +110,11 @@ squares_below x (suc k) t f h xs =
 -- ---- accepted columns are finite
 
 pub column_accepted :
-    (heightOf : ℕ → ℕ) (a l : Triangle) (j : ℕ) → T (accepted (column_verdict heightOf a l j)) →
-    T (positive (pivot a l j)) × T (all finite (below heightOf a j l))
+    (height_of : ℕ → ℕ) (a l : Triangle) (j : ℕ) → T (accepted (column_verdict height_of a l j)) →
+    T (positive (pivot a l j)) × T (all finite (below height_of a j l))
 unfolding column_verdict
-column_accepted heightOf a l j t =
-    rules_accepted j (entry a j j) (pivot a l j) (all finite (below heightOf a j l)) t
+column_accepted height_of a l j t =
+    rules_accepted j (entry a j j) (pivot a l j) (all finite (below height_of a j l)) t
 
 -- the matrix's entries are finite values of binary64
 pub record FiniteMatrix (n : ℕ) (a : Triangle) : Type 0 where

@@ -1,4 +1,4 @@
--- The memory that rule 7 of a variance call judges, specs/Variances.antt's `columnsFrom`: what stands at each place, and when all of it is finite. Assumes nothing.
+-- The memory that rule 7 of a variance call judges, specs/Variances.antt's `columns_from`: what stands at each place, and when all of it is finite. Assumes nothing.
 use Prim.Native.Nat.{ℕ, ◌-◌, ◌≤◌, ◌<◌}
 use native.Mathlib.Omega.{arith}
 use native.Mathlib.Decide.{dec_lt}

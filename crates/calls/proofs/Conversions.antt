@@ -39,12 +39,12 @@ target_bijection RfpToPacked form n = packed_bijection n
 
 -- ---- the checks
 
-pub record ConverterAccepted (form : ℕ) (shape : Shape) (sourceLength targetLength : ℕ) : Type 0 where
+pub record ConverterAccepted (form : ℕ) (shape : Shape) (source_length target_length : ℕ) : Type 0 where
   pub order : shape.order ≤ max_order
   pub form_low : form ≤ 1
   pub state : T (suits (next Converter shape.state))
-  pub source : sourceLength ≡ triangle shape.order
-  pub target : targetLength ≡ triangle shape.order
+  pub source : source_length ≡ triangle shape.order
+  pub target : target_length ≡ triangle shape.order
 
 -- b is not judged
 rule2_converter : (b : ℕ) → rule2 Converter b ≡ success

@@ -86,7 +86,7 @@ pub record SolutionEntries (n : ℕ) (l : Triangle) (rhs y x : List Float) : Typ
       ≡ div binary64 (minus_products (λ c. entry l (n - 1 - c) i) (λ c. get_or x (n - 1 - c) nan) (n - 1 - i) (get_or y i nan)) (entry l i i)
 
 module _ (n : ℕ) (l : Triangle) (rhs : List Float) where
-  -- what `forward` and `backwardRows` grow by
+  -- what `forward` and `backward_rows` grow by
   abbrev next_forward : ℕ → List Float → Float
   next_forward i y = div binary64 (minus_products (λ k. entry l i k) (λ k. get_or y k nan) i (get_or rhs i nan)) (entry l i i)
 

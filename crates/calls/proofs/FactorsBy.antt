@@ -1,4 +1,4 @@
--- The factors with any rules for a column in the place of `columnRules`, for laws that say what a change of these rules changed. Assumes nothing.
+-- The factors with any rules for a column in the place of `column_rules`, for laws that say what a change of these rules changed. Assumes nothing.
 use Prim.Native.Nat.{ℕ}
 use mathlib.Core.Path.{◌≡◌, refl}
 use mathlib.Core.Bool.{Bool, true, false, cond}
@@ -31,7 +31,7 @@ module _ (n : ℕ) (a : Triangle) (j : ℕ) where
 
 -- ---- a factor
 
--- rules for a column, on what `columnRules` takes
+-- rules for a column, on what `column_rules` takes
 abbrev pub Rules : Type 0
 Rules = ℕ → Float → Float → Bool → Verdict
 

@@ -145,14 +145,14 @@ module _ (call : Call) (shape : Shape) (rest : List Verdict) where
 
 -- a call that passes its checks gives x, and one that they refuse y
 module _
-    {D : Type 0} (result : D → CallResult) (memoryOf workOf : D → List Float) (call : Call) (shape : Shape) (rest : List Verdict) (memory work : List Float)
-    (before : Former) (x : D) (y : Verdict → D) (passed-result : result x ≡ judged_result call shape before.answer) (passed-memory : memoryOf x ≡ before.memory)
-    (passed-work : workOf x ≡ before.work) (refused-result : (v : Verdict) → result (y v) ≡ result_of call shape v)
-    (refused-memory : (v : Verdict) → memoryOf (y v) ≡ memory) (refused-work : (v : Verdict) → workOf (y v) ≡ work) (other : Other before.answer.verdict)
+    {D : Type 0} (result : D → CallResult) (memory_of work_of : D → List Float) (call : Call) (shape : Shape) (rest : List Verdict) (memory work : List Float)
+    (before : Former) (x : D) (y : Verdict → D) (passed-result : result x ≡ judged_result call shape before.answer) (passed-memory : memory_of x ≡ before.memory)
+    (passed-work : work_of x ≡ before.work) (refused-result : (v : Verdict) → result (y v) ≡ result_of call shape v)
+    (refused-memory : (v : Verdict) → memory_of (y v) ≡ memory) (refused-work : (v : Verdict) → work_of (y v) ≡ work) (other : Other before.answer.verdict)
     (others : Other (checks_before call shape rest))
   where
     abbrev Added : Former → D → Type 0
-    Added f d = StatesAdded call shape memory work f (result d) (memoryOf d) (workOf d)
+    Added f d = StatesAdded call shape memory work f (result d) (memory_of d) (work_of d)
 
     abbrev Never : Type 0
     Never = suits (next call shape.state) ≡ false → rule1 shape.order ≡ success → rule2 call shape.block ≡ success → ⊥

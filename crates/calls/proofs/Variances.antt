@@ -533,25 +533,25 @@ module _ (n b k : ℕ) (matrix : List Float) (low : 1 ≤ b) (whole : length mat
 
 pub variances_agree : VariancesAgree
 unfolding state_after look_up
-variances_agree n b k matrix plainWork blockedWork order low high whole plainEnough blockedEnough =
-    let moves = rearrange_free Packed Blocked (in_state (Factored Packed) n b) matrix blockedWork
-    (record { order = order; block_low = low; block_high = high; state = tt; matrix = whole; work = blockedEnough }) in
-    rw moves (both (clear (block_work n b) blockedWork)
-    (omega (arith, length_clear (block_work n b) blockedWork blockedEnough, work_enough n b low)))
+variances_agree n b k matrix plain_work blocked_work order low high whole plain_enough blocked_enough =
+    let moves = rearrange_free Packed Blocked (in_state (Factored Packed) n b) matrix blocked_work
+    (record { order = order; block_low = low; block_high = high; state = tt; matrix = whole; work = blocked_enough }) in
+    rw moves (both (clear (block_work n b) blocked_work)
+    (omega (arith, length_clear (block_work n b) blocked_work blocked_enough, work_enough n b low)))
   where
     both :
-        (blockedWork : List Float) → n ≤ length blockedWork →
-        SameAnswer (variance Packed (in_state (Factored Packed) n b) k matrix plainWork)
-        (variance Blocked (in_state (Factored Blocked) n b) k (moved Packed Blocked n b matrix) blockedWork)
-    both blockedWork enough =
-        let plain : answer (variance Packed (in_state (Factored Packed) n b) k matrix plainWork).result
+        (blocked_work : List Float) → n ≤ length blocked_work →
+        SameAnswer (variance Packed (in_state (Factored Packed) n b) k matrix plain_work)
+        (variance Blocked (in_state (Factored Blocked) n b) k (moved Packed Blocked n b matrix) blocked_work)
+    both blocked_work enough =
+        let plain : answer (variance Packed (in_state (Factored Packed) n b) k matrix plain_work).result
         ≡ record { verdict = late_verdict Packed (in_state (Factored Packed) n b) k matrix; exact = false } =
-        late_answer Packed (in_state (Factored Packed) n b) k matrix plainWork
-        (record { order = order; block_low = low; block_high = high; state = tt; matrix = whole; work = plainEnough })
+        late_answer Packed (in_state (Factored Packed) n b) k matrix plain_work
+        (record { order = order; block_low = low; block_high = high; state = tt; matrix = whole; work = plain_enough })
         in
-        let block : answer (variance Blocked (in_state (Factored Blocked) n b) k (moved Packed Blocked n b matrix) blockedWork).result
+        let block : answer (variance Blocked (in_state (Factored Blocked) n b) k (moved Packed Blocked n b matrix) blocked_work).result
         ≡ record { verdict = late_verdict Blocked (in_state (Factored Blocked) n b) k (moved Packed Blocked n b matrix); exact = false } =
-        late_answer Blocked (in_state (Factored Blocked) n b) k (moved Packed Blocked n b matrix) blockedWork
+        late_answer Blocked (in_state (Factored Blocked) n b) k (moved Packed Blocked n b matrix) blocked_work
         (record { order = order; block_low = low; block_high = high; state = tt; matrix = moved_length n b k matrix low whole; work = enough })
         in
         let same = late_same n b k matrix low whole in
@@ -564,10 +564,10 @@ variances_agree n b k matrix plainWork blockedWork order low high whole plainEno
 -- ---- both ways from a packed matrix
 
 module _
-    (n b k : ℕ) (matrix plainWork blockedWork : List Float) (v : T (all (fits binary64) matrix)) (s : Start n b 0 matrix [] plainWork blockedWork)
-    (t : T (accepted (verdict n b 0 matrix [] plainWork blockedWork v s))) where
+    (n b k : ℕ) (matrix plain_work blocked_work : List Float) (v : T (all (fits binary64) matrix)) (s : Start n b 0 matrix [] plain_work blocked_work)
+    (t : T (accepted (verdict n b 0 matrix [] plain_work blocked_work v s))) where
   abbrev triangular : Triangle
-  triangular = factor_of n b 0 matrix [] plainWork blockedWork v s
+  triangular = factor_of n b 0 matrix [] plain_work blocked_work v s
 
   abbrev plain_factor : List Float
   plain_factor = store (place_of Packed n b) triangular matrix
@@ -585,9 +585,9 @@ module _
       (λ i j e h.
       subst (λ x. T (finite x))
       (sym
-      (store_same (place_of Packed n b) n layout_places triangular n (factor_shaped n b 0 matrix [] plainWork blockedWork v s t) matrix (omega (arith, s.matrix_length)) i j nan e
+      (store_same (place_of Packed n b) n layout_places triangular n (factor_shaped n b 0 matrix [] plain_work blocked_work v s t) matrix (omega (arith, s.matrix_length)) i j nan e
       (omega (arith, e.lower, e.inside))))
-      (factor_finite n b 0 matrix [] plainWork blockedWork v s t i j e)))
+      (factor_finite n b 0 matrix [] plain_work blocked_work v s t i j e)))
 
   both_answer :
       (w w' : List Float) → n ≤ length w → n ≤ length w' →
@@ -610,24 +610,24 @@ module _
       }))
 
 pub factor_variances_agree : FactorVariancesAgree
-factor_variances_agree n b k matrix plainWork blockedWork v s t =
-    let accepts : T (accepted (verdict n b 0 matrix [] plainWork blockedWork v s)) =
-    subst (λ (r : CallResult). T (succeeded r)) (ap (λ (d : Done). d.result) (plain_factor_lem n b 0 matrix [] plainWork blockedWork v s)) t in
-    let cleared = cleared_length n b 0 matrix [] plainWork blockedWork v s in
+factor_variances_agree n b k matrix plain_work blocked_work v s t =
+    let accepts : T (accepted (verdict n b 0 matrix [] plain_work blocked_work v s)) =
+    subst (λ (r : CallResult). T (succeeded r)) (ap (λ (d : Done). d.result) (plain_factor_lem n b 0 matrix [] plain_work blocked_work v s)) t in
+    let cleared = cleared_length n b 0 matrix [] plain_work blocked_work v s in
     rw (
-      there n b 0 matrix [] plainWork blockedWork v s,
-      plain_accepted n b 0 matrix [] plainWork blockedWork v s accepts,
-      blocked_accepted n b 0 matrix [] plainWork blockedWork v s accepts,
-      factor_state Packed n (a n b 0 matrix [] plainWork blockedWork v s) accepts,
-      factor_state Blocked n (a n b 0 matrix [] plainWork blockedWork v s) accepts,
+      there n b 0 matrix [] plain_work blocked_work v s,
+      plain_accepted n b 0 matrix [] plain_work blocked_work v s accepts,
+      blocked_accepted n b 0 matrix [] plain_work blocked_work v s accepts,
+      factor_state Packed n (a n b 0 matrix [] plain_work blocked_work v s) accepts,
+      factor_state Blocked n (a n b 0 matrix [] plain_work blocked_work v s) accepts,
     )
-    (both_answer n b k matrix plainWork blockedWork v s accepts (clear n plainWork)
-    (clear (block_work n b) (cleared_work n b 0 matrix [] plainWork blockedWork v s))
-    (omega (arith, length_clear n plainWork s.plain_work_length, s.plain_work_length))
+    (both_answer n b k matrix plain_work blocked_work v s accepts (clear n plain_work)
+    (clear (block_work n b) (cleared_work n b 0 matrix [] plain_work blocked_work v s))
+    (omega (arith, length_clear n plain_work s.plain_work_length, s.plain_work_length))
     (omega (
       arith,
       cleared,
       s.blocked_work_length,
-      length_clear (block_work n b) (cleared_work n b 0 matrix [] plainWork blockedWork v s) (omega (arith, cleared, s.blocked_work_length)),
+      length_clear (block_work n b) (cleared_work n b 0 matrix [] plain_work blocked_work v s) (omega (arith, cleared, s.blocked_work_length)),
       work_enough n b s.block_low,
     )))

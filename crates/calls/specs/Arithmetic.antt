@@ -22,15 +22,15 @@ quotient a l diagonal j i = div binary64 (minus_products (λ k. entry l i k) (λ
 
 -- rows i = j+1 .. of column j, the columns of l before it being known
 unfoldable pub below : (ℕ → ℕ) → Triangle → ℕ → Triangle → List Float
-below heightOf a j l = let diagonal = root (pivot a l j) in tabulate (heightOf j - 1) (λ r. quotient a l diagonal j (j + 1 + r))
+below height_of a j l = let diagonal = root (pivot a l j) in tabulate (height_of j - 1) (λ r. quotient a l diagonal j (j + 1 + r))
 
 -- l(j,j) is the pivot's root.
 unfoldable pub factor_column : (ℕ → ℕ) → Triangle → ℕ → Triangle → List Float
-factor_column heightOf a j l = root (pivot a l j) ∷ below heightOf a j l
+factor_column height_of a j l = root (pivot a l j) ∷ below height_of a j l
 
 -- Column j, ascending.
 unfoldable pub cholesky : (ℕ → ℕ) → Triangle → ℕ → Triangle
-cholesky heightOf a n = grow (factor_column heightOf a) n
+cholesky height_of a n = grow (factor_column height_of a) n
 
 -- Forward: y(i) = (right-side value i − products l(i,k)·y(k), rising k below i) / l(i,i), subtracting one by one.
 unfoldable pub forward : ℕ → Triangle → List Float → List Float

@@ -24,10 +24,10 @@ abbrev pub target_place : Conversion → ℕ → ℕ → ℕ → ℕ → ℕ
 target_place conversion = source_place (reverse conversion)
 
 unfoldable pub converter_checks : ℕ → Shape → ℕ → ℕ → Verdict
-converter_checks form shape sourceLength targetLength =
+converter_checks form shape source_length target_length =
     let n = shape.order in
     first_refusal
-    (rule1 n ∷ rule2 Converter shape.block ∷ rule17 form ∷ rule15 Converter shape.state ∷ rule3 n sourceLength ∷ rule3 n targetLength ∷ [])
+    (rule1 n ∷ rule2 Converter shape.block ∷ rule17 form ∷ rule15 Converter shape.state ∷ rule3 n source_length ∷ rule3 n target_length ∷ [])
 
 -- what a converter returns and leaves; it alters no source
 pub record Converted : Type 0 where

@@ -69,7 +69,7 @@ blocked_pipeline n b m matrix rhs work =
 
 -- What both start from: n, b and m within the bounds, a packed matrix of finite values, right-hand sides of any bits, and work memory long
 -- enough for each call of its pipeline, with any content.
-pub record Start (n b m : ℕ) (matrix rhs plainWork blockedWork : List Float) : Type 0 where
+pub record Start (n b m : ℕ) (matrix rhs plain_work blocked_work : List Float) : Type 0 where
   pub order : n ≤ max_order
   pub block_low : 1 ≤ b
   pub block_high : b ≤ max_block
@@ -77,8 +77,8 @@ pub record Start (n b m : ℕ) (matrix rhs plainWork blockedWork : List Float) :
   pub matrix_length : length matrix ≡ triangle n
   pub matrix_finite : T (all finite matrix)
   pub rhs_length : length rhs ≡ n * m
-  pub plain_work_length : n ≤ length plainWork
-  pub blocked_work_length : block_work n b ≤ length blockedWork
+  pub plain_work_length : n ≤ length plain_work
+  pub blocked_work_length : block_work n b ≤ length blocked_work
 
 -- What is compared: the factors' answers; where these accept, the solvers' answers, all right-hand-side memory and all matrix memory; and the shape at
 -- the end. The shapes in these results are not: the plain ones say packed factor, the blocked ones blocked factor.
@@ -93,7 +93,7 @@ pub record Agreement (plain block : Ended) : Type 0 where
 -- matrix holds values of binary64, as every memory of f64 does.
 abbrev pub PipelinesAgree : Type 0
 PipelinesAgree =
-    (n b m : ℕ) (matrix rhs plainWork blockedWork : List Float) →
+    (n b m : ℕ) (matrix rhs plain_work blocked_work : List Float) →
     T (all (fits binary64) matrix) →
-    Start n b m matrix rhs plainWork blockedWork →
-    Agreement (plain_pipeline n b m matrix rhs plainWork) (blocked_pipeline n b m matrix rhs blockedWork)
+    Start n b m matrix rhs plain_work blocked_work →
+    Agreement (plain_pipeline n b m matrix rhs plain_work) (blocked_pipeline n b m matrix rhs blocked_work)

@@ -149,7 +149,7 @@ column_rules j entered p finite_below = first_refusal (rule10 j (judged p) ∷ r
 
 -- column j judged, the columns of l before it being known
 unfoldable pub column_verdict : (ℕ → ℕ) → Triangle → Triangle → ℕ → Verdict
-column_verdict heightOf a l j = column_rules j (entry a j j) (pivot a l j) (all finite (below heightOf a j l))
+column_verdict height_of a l j = column_rules j (entry a j j) (pivot a l j) (all finite (below height_of a j l))
 
 -- whether its root is exact
 unfoldable pub column_exact : Triangle → Triangle → ℕ → Bool

@@ -27,7 +27,7 @@ place_from k place i j = place (k + i) (k + j)
 
 -- n columns of the given heights, read from memory
 unfoldable pub load : (ℕ → ℕ → ℕ) → (ℕ → ℕ) → ℕ → List Float → Triangle
-load place heightOf n memory = tabulate n (λ j. tabulate (heightOf j) (λ r. get_or memory (place (j + r) j) nan))
+load place height_of n memory = tabulate n (λ j. tabulate (height_of j) (λ r. get_or memory (place (j + r) j) nan))
 
 -- the trailing triangle of a lower triangle of order n, itself one of order n − k
 abbrev pub load_from : ℕ → (ℕ → ℕ → ℕ) → ℕ → List Float → Triangle

@@ -101,25 +101,25 @@ pub record SameAnswer (plain block : Evaluated) : Type 0 where
 
 abbrev pub VariancesAgree : Type 0
 VariancesAgree =
-    (n b k : ℕ) (matrix plainWork blockedWork : List Float) →
+    (n b k : ℕ) (matrix plain_work blocked_work : List Float) →
     n ≤ max_order →
     1 ≤ b →
     b ≤ max_block →
     length matrix ≡ triangle n →
-    n ≤ length plainWork →
-    block_work n b ≤ length blockedWork →
+    n ≤ length plain_work →
+    block_work n b ≤ length blocked_work →
     let shape : Shape = record { order = n; block = b; state = state_number (Factored Packed) } in
-    let p = packed_to_blocked shape matrix blockedWork in
-    SameAnswer (variance Packed shape k matrix plainWork) (variance Blocked p.result.shape k p.matrix p.work)
+    let p = packed_to_blocked shape matrix blocked_work in
+    SameAnswer (variance Packed shape k matrix plain_work) (variance Blocked p.result.shape k p.matrix p.work)
 
 -- So both ways from a packed matrix, under demand 3's premises: where its factor is accepted, the answers are the same.
 abbrev pub FactorVariancesAgree : Type 0
 FactorVariancesAgree =
-    (n b k : ℕ) (matrix plainWork blockedWork : List Float) →
+    (n b k : ℕ) (matrix plain_work blocked_work : List Float) →
     T (all (fits binary64) matrix) →
-    Start n b 0 matrix [] plainWork blockedWork →
-    let f = factorize Packed (packed_raw n b) matrix plainWork in
-    let p = packed_to_blocked (packed_raw n b) matrix blockedWork in
+    Start n b 0 matrix [] plain_work blocked_work →
+    let f = factorize Packed (packed_raw n b) matrix plain_work in
+    let p = packed_to_blocked (packed_raw n b) matrix blocked_work in
     let g = factorize Blocked p.result.shape p.matrix p.work in
     T (succeeded f.result) →
     answer (variance Packed f.result.shape k f.matrix f.work).result ≡ answer (variance Blocked g.result.shape k g.matrix g.work).result

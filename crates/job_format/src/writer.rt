@@ -3,7 +3,7 @@ ghost use Rattle.std.specs.Prelude.{◌≡◌, cond, ◌+◌, ◌*◌, ◌/◌, 
 ghost use Rattle.shape.specs.Places.{triangle};
 ghost use Rattle.job_format.specs.Format.{InBounds};
 ghost use Rattle.text.specs.Writing.{Written};
-ghost use Rattle.job_format.specs.Rewriting.{max_job, sizes_bytes, bits_from, stands as standsOver, map_of, value_bytes, values_bytes, job_bytes};
+ghost use Rattle.job_format.specs.Rewriting.{max_job, sizes_bytes, bits_from, stands as stands_over, map_of, value_bytes, values_bytes, job_bytes};
 
 use crate::bytes::put_field;
 use crate::format::is_needless;
@@ -21,7 +21,7 @@ fn put_sizes(out: &mut [u8], sizes: Sizes) -> usize
 
 // Whether a bit stands at p; none does past the last entry.
 fn stands(matrix: &[u64], p: usize) -> bool
-    ensures { result ≡ standsOver matrix.now p }
+    ensures { result ≡ stands_over matrix.now p }
 {
     if p < matrix.len() {
         return matrix[p] != 0;
@@ -30,7 +30,7 @@ fn stands(matrix: &[u64], p: usize) -> bool
 }
 
 fn bit(matrix: &[u64], p: usize) -> u8
-    ensures { result ≡ cond (standsOver matrix.now p) 1 0 }
+    ensures { result ≡ cond (stands_over matrix.now p) 1 0 }
 {
     if stands(matrix, p) {
         return 1;
@@ -41,7 +41,7 @@ fn bit(matrix: &[u64], p: usize) -> u8
 // The byte of the map whose lowest bit is the one at first: from the highest bit down.
 fn map_byte(matrix: &[u64], first: usize) -> u8
     requires { first < length matrix.now }
-    ensures { result ≡ bits_from (standsOver matrix.now) first 8 }
+    ensures { result ≡ bits_from (stands_over matrix.now) first 8 }
 {
     let mut byte: u8 = 0;
     let mut k = 8;

@@ -53,8 +53,8 @@ module _ (n j : ℕ) (m : List Float) where
   unfolding pivot
   pivot_held h = products_held j (omega arith) h
 
-  module _ (w w' : List Float) (d : Float) (finiteRows : Bool)
-      (size : length w ≡ n) (size' : length w' ≡ n) (inside : j < n) (rows : Reduced n m j j j n w) (divided : Divided j d w w' finiteRows)
+  module _ (w w' : List Float) (d : Float) (finite_rows : Bool)
+      (size : length w ≡ n) (size' : length w' ≡ n) (inside : j < n) (rows : Reduced n m j j j n w) (divided : Divided j d w w' finite_rows)
       (root_is : d ≡ root (pivot t t j)) where
     below_held : drop (j + 1) w' ≡ below (height n) t j t
     unfolding below height quotient
@@ -119,28 +119,28 @@ module _ (n j : ℕ) (m w : List Float) (s : Column n j m) (size : length w ≡ 
           matrix = rw (result, rules_refused j (entry (held n m) j j) x v true here);
         }
 
-  module _ (d : Float) (t : Bool) (w' : List Float) (finiteRows : Bool) (is : Root d t ≡ judged (get_or w j nan)) (size' : length w' ≡ n)
-      (divided : Divided j d w w' finiteRows) where
+  module _ (d : Float) (t : Bool) (w' : List Float) (finite_rows : Bool) (is : Root d t ≡ judged (get_or w j nan)) (size' : length w' ≡ n)
+      (divided : Divided j d w w' finite_rows) where
     root_is : d ≡ root x
     root_is = judged_root x d t (ap judged (sym pivot_is) ∙ sym is)
 
     pub column_judged :
         {r : Judgement} {m' : List Float} →
-        r ≡ judgement (column_rules j (get_or m (packed_place n j j) nan) (get_or w j nan) finiteRows) t →
+        r ≡ judgement (column_rules j (get_or m (packed_place n j j) nan) (get_or w j nan) finite_rows) t →
         m' ≡ cond (accepted r.verdict) (store_column (packed_place n) j (drop j w') m) m → Judged n j m r m'
     unfolding column_verdict column_exact
     column_judged {r} er stored =
         record {
           result =
               er
-              ∙ ap (λ p. judgement (column_rules j (get_or m (packed_place n j j) nan) (get_or w j nan) finiteRows) (exact_root p)) is
-              ∙ rules_are finiteRows
+              ∙ ap (λ p. judgement (column_rules j (get_or m (packed_place n j j) nan) (get_or w j nan) finite_rows) (exact_root p)) is
+              ∙ rules_are finite_rows
               ∙ ap (λ f. judgement (column_rules j (entry (held n m) j j) x f) (exact_root (judged x)))
-              (divided.finites ∙ ap (all finite) (below_held n j m w w' d finiteRows size size' s.column rows divided root_is));
+              (divided.finites ∙ ap (all finite) (below_held n j m w w' d finite_rows size size' s.column rows divided root_is));
           matrix =
               stored
               ∙ ap (λ c. cond (accepted r.verdict) (store_column (packed_place n) j c m) m)
-              (column_held n j m w w' d finiteRows size size' s.column rows divided root_is);
+              (column_held n j m w w' d finite_rows size size' s.column rows divided root_is);
         }
 
 -- ---- what a column leaves

@@ -101,11 +101,11 @@ abbrev pub RowsDivided : ℕ → Float → List Float → List Float → Type 0
 RowsDivided from d w w' = Filled nan from (length w - from) (λ r. div binary64 (get_or w (from + r) nan) d) w w'
 
 -- the column in w finished with its diagonal value d: the rows below it divided by d, and whether they are all finite
-pub record Divided (j : ℕ) (d : Float) (w w' : List Float) (finiteRows : Bool) : Type 0 where
+pub record Divided (j : ℕ) (d : Float) (w w' : List Float) (finite_rows : Bool) : Type 0 where
   pub before : Same 0 j w w'
   pub diagonal : get_or w' j nan ≡ d
   pub rows : (i : ℕ) → j < i → i < length w → get_or w' i nan ≡ div binary64 (get_or w i nan) d
-  pub finites : finiteRows ≡ all finite (drop (j + 1) w')
+  pub finites : finite_rows ≡ all finite (drop (j + 1) w')
 
 -- column j judged, and written where it is accepted
 pub record Judged (n j : ℕ) (m : List Float) (r : Judgement) (m' : List Float) : Type 0 where

@@ -1,4 +1,4 @@
--- `job::listing::hex_digit` meets its contract. By the two cases of `hexDigit`. Assumes nothing.
+-- `job::listing::hex_digit` meets its contract. By the two cases of `hex_digit`. Assumes nothing.
 use borrow.Author.Tests.{lt-ltb, le-ltb}
 use Rattle.job.specs.Listing.{hex_digit}
 use borrow.Author.Rules.{rules}

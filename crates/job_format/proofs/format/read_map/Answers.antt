@@ -1,4 +1,4 @@
--- `job_format::format::read_map` meets its contract. Each way out is one case of `readMap`. Assumes nothing.
+-- `job_format::format::read_map` meets its contract. Each way out is one case of `read_map`. Assumes nothing.
 use native.Mathlib.Omega.{arith}
 use mathlib.Core.Path.{ap, ◌∙◌}
 use Rattle.shape.specs.Places.{triangle}

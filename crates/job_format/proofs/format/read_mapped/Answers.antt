@@ -1,4 +1,4 @@
--- `job_format::format::read_mapped` meets its contract. Each way out is one case of `readValues`. Assumes nothing.
+-- `job_format::format::read_mapped` meets its contract. Each way out is one case of `read_values`. Assumes nothing.
 use mathlib.Core.Path.{sym, ap, ◌∙◌}
 use lib.ListN.{length}
 use Rattle.job_format.specs.Format.{parsed_as}

@@ -1,4 +1,4 @@
--- `job_format::format::read_sizes` meets its contract. Each way out is one case of `readSizes`. Assumes nothing.
+-- `job_format::format::read_sizes` meets its contract. Each way out is one case of `read_sizes`. Assumes nothing.
 use mathlib.Core.Path.{sym, ap, ◌∙◌}
 use Rattle.job_format.specs.Reading.{parsed_field}
 use Rattle.job_format.proofs.Formats.{sizes_fault_order, sizes_fault_block, sizes_fault_count, sizes_found}
