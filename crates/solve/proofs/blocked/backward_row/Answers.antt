@@ -14,8 +14,7 @@ overflow_add-end c =
     omega (
       arith,
       room_part a.block a.r a.from (a.block.w - a.from) (omega arith) (omega arith) (omega arith) (omega arith) (omega arith),
-      values_le
-          a.block (omega arith) (omega arith),
+      values_le a.block (omega arith) (omega arith),
     )
 
 pub offset_bounds-part-at : goal.offset_bounds-part-at

@@ -3,7 +3,6 @@ use Prim.Native.Nat.{◌+◌, ◌-◌}
 use native.Mathlib.Omega.{arith}
 use mathlib.Core.Path.{◌≡◌, sym, ap, ◌∙◌}
 use mathlib.Core.Bool.{true, false}
-use borrow.Author.Rules.{rules}
 use lib.ListN.{take, drop}
 use Rattle.binary64.specs.Kinds.{zero64}
 use Rattle.calls.specs.declared.Verdict.{Verdict}
@@ -21,24 +20,15 @@ returns-then-accepted c =
     c.check_finite-found.ensures ∙ finite_success 6 part (rw passed tt) ∙ sym (part_accepted a.matrix.now a.from a.to fits (rw passed tt))
 
 -- a refused part
-refused : (c : goal.Else-accepted) →
-    let a = c.args in
-    accepted (finite_rule 7 (take (a.to - a.from) (drop a.from a.matrix.now))) ≡ false
-refused c = cc
-
 pub overflow_add-from : goal.overflow_add-from
 overflow_add-from c =
     let a = c.args in
-    let fits = c.requires.1 in
-    omega (
-      arith,
-      ap (λ (v : Verdict). v.place) c.check_finite-found.ensures,
-      refused_inside a.matrix.now a.from a.to fits (refused c.before),
-    )
+    let refused : accepted (finite_rule 7 (take (a.to - a.from) (drop a.from a.matrix.now))) ≡ false = cc in
+    omega (arith, ap (λ (v : Verdict). v.place) c.check_finite-found.ensures, refused_inside a.matrix.now a.from a.to c.requires.1 refused)
 
 pub returns : goal.returns
 returns c =
     let a = c.args in
-    let fits = c.requires.1 in
+    let refused : accepted (finite_rule 7 (take (a.to - a.from) (drop a.from a.matrix.now))) ≡ false = cc in
     c.refusal.ensures ∙ ap (λ (v : Verdict). refusal 7 (a.from + v.place) zero64) c.check_finite-found.ensures
-    ∙ part_refused a.matrix.now a.from a.to fits (refused c.before.before)
+    ∙ part_refused a.matrix.now a.from a.to c.requires.1 refused

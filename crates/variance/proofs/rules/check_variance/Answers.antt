@@ -1,11 +1,14 @@
 -- `variance::rules::check_variance` meets its contract: the rules are judged in four parts, and the first part that refuses decides. What the later parts
 -- require, the rules of the sizes and 14 have settled. Assumes nothing.
+use Prim.Native.Nat.{ℕ, ◌<◌}
 use native.Mathlib.Omega.{arith}
 use mathlib.Core.Path.{◌≡◌, sym, ap, ◌∙◌}
-use mathlib.Core.Bool.{true}
+use mathlib.Core.Bool.{true, false}
 use mathlib.Core.List.{List, [], ◌∷◌, ◌++◌}
-use borrow.Author.Rules.{rules}
 use lib.ListN.{length}
+use lib.Ieee.{Float}
+use Rattle.shape.specs.declared.Shape.{Shape}
+use Rattle.calls.specs.declared.Layout.{Layout}
 use Rattle.calls.specs.declared.Verdict.{Verdict}
 use Rattle.calls.specs.declared.Call.TheVariants.{Variance}
 use Rattle.calls.specs.Triangles.{place_of}
@@ -18,87 +21,106 @@ use Rattle.calls.proofs.CheckLaws.{rule14_refused, finite_alone, rule9_alone, Si
 use Rattle.calls.proofs.Variances.{late_rules, solver_blocks}
 use Rattle.variance.proofs.rules.check_variance.Goals as goal
 
--- ---- the parts, of the arguments
+-- ---- the parts, of the arguments, and what is left to judge once a part has passed
 
-abbrev checks : goal.Start → Verdict
-checks s = variance_checks s.args.layout s.args.shape s.args.k s.args.matrix.now s.args.work
+module _ (layout : Layout) (shape : Shape) (k : ℕ) (matrix : List Float) (work : ℕ) where
+  abbrev judgement : Verdict
+  judgement = variance_checks layout shape k matrix work
 
-abbrev sizes : goal.Start → List Verdict
-sizes s = size_rules (Variance s.args.layout) s.args.shape (length s.args.matrix.now) s.args.work
+  abbrev sizes : List Verdict
+  sizes = size_rules (Variance layout) shape (length matrix) work
 
-abbrev late : goal.Start → List Verdict
-late s = late_rules s.args.layout s.args.shape s.args.k s.args.matrix.now
+  abbrev late : List Verdict
+  late = late_rules layout shape k matrix
 
-abbrev values : goal.Start → List Verdict
-values s = rule7 (columns_from s.args.k (place_of s.args.layout s.args.shape.order s.args.shape.block) s.args.shape.order s.args.matrix.now) ∷ []
+  abbrev columns : List Float
+  columns = columns_from k (place_of layout shape.order shape.block) shape.order matrix
 
-abbrev diagonal : goal.Start → List Verdict
-diagonal s = rule9 (place_of s.args.layout s.args.shape.order s.args.shape.block) s.args.k s.args.shape.order s.args.matrix.now ∷ []
+  abbrev values : List Verdict
+  values = rule7 columns ∷ []
 
--- ---- what is left to judge once a part has passed
+  abbrev diagonal : List Verdict
+  diagonal = rule9 (place_of layout shape.order shape.block) k shape.order matrix ∷ []
 
-settled :
-    (c : goal.Else-not-accepted) →
-    SizesAccepted (Variance c.args.layout) c.args.shape (length c.args.matrix.now) c.args.work
-settled c =
-    let s = c.before.before.before.before in
-    let passed = accepted_of c.accepted.result c.check_sizes-sizes.result c.accepted.ensures c.if-not-accepted.false-raw in
-    let all-passed : accepted (first_refusal (sizes s)) ≡ true = rw (← c.check_sizes-sizes.ensures) passed in
-    (sizes_accepted (Variance c.args.layout) c.args.shape (length c.args.matrix.now) c.args.work [] (rw all-passed tt)).0
+  settled : (v : Verdict) → v ≡ first_refusal sizes → accepted v ≡ true → SizesAccepted (Variance layout) shape (length matrix) work
+  settled v e passed =
+      let all_passed : accepted (first_refusal sizes) ≡ true = rw (← e) passed in
+      (sizes_accepted (Variance layout) shape (length matrix) work [] (rw all_passed tt)).0
 
-past_sizes : (c : goal.Else-not-accepted) → checks c.before.before.before.before ≡ first_refusal (late c.before.before.before.before)
-unfolding variance_checks
-past_sizes c =
-    let s = c.before.before.before.before in
-    first_continued (sizes s) (late s) c.check_sizes-sizes.result c.check_sizes-sizes.ensures
-    (accepted_of c.accepted.result c.check_sizes-sizes.result c.accepted.ensures c.if-not-accepted.false-raw)
+  -- the parts that have passed: of the sizes, 14, of the values
+  past_sizes : (v : Verdict) → v ≡ first_refusal sizes → accepted v ≡ true → judgement ≡ first_refusal late
+  unfolding variance_checks
+  past_sizes v e passed = first_continued sizes late v e passed
 
-past_14 : (c : goal.Else-k-shape) → let s = c.before.before.before.before.before.before in checks s ≡ first_refusal (values s ++ diagonal s)
-past_14 c =
-    past_sizes c.before.before ∙ first_passes (rule14 c.args.shape.order c.args.k) _ (rule14_passes c.args.shape.order c.args.k (omega arith))
+  past_14 : judgement ≡ first_refusal late → k < shape.order → judgement ≡ first_refusal (values ++ diagonal)
+  past_14 before inside = before ∙ first_passes (rule14 shape.order k) _ (rule14_passes shape.order k inside)
 
-past_values : (c : goal.Else-not-accepted-2) → let s = c.before.before.before.before.before.before.before.before.before in checks s ≡ first_refusal (diagonal s)
-past_values c =
-    let s = c.before.before.before.before.before.before.before.before.before in
-    past_14 c.before.before.before
-    ∙ first_continued (values s) (diagonal s) c.check_columns_from-values.result (c.check_columns_from-values.ensures ∙ sym (finite_alone 6 _))
-    (accepted_of c.accepted-2.result c.check_columns_from-values.result c.accepted-2.ensures c.if-not-accepted-2.false-raw)
+  past_values :
+      judgement ≡ first_refusal (values ++ diagonal) → (v : Verdict) → v ≡ rule7 columns → accepted v ≡ true → judgement ≡ first_refusal diagonal
+  past_values before v e passed = before ∙ first_continued values diagonal v (e ∙ sym (finite_alone 6 columns)) passed
+
+  -- a part that has refused
+  by_sizes : (v : Verdict) → v ≡ first_refusal sizes → accepted v ≡ false → v ≡ judgement
+  unfolding variance_checks
+  by_sizes v e refused = first_decided sizes late v e refused
+
+  by_values : judgement ≡ first_refusal (values ++ diagonal) → (v : Verdict) → v ≡ rule7 columns → accepted v ≡ false → v ≡ judgement
+  by_values before v e refused = first_decided values diagonal v (e ∙ sym (finite_alone 6 columns)) refused ∙ sym before
 
 -- ---- the needs
 
 pub returns-then-not-accepted : goal.returns-then-not-accepted
-unfolding variance_checks
 returns-then-not-accepted c =
-    let s = c.before.before.before.before in
-    first_decided (sizes s) (late s) c.check_sizes-sizes.result c.check_sizes-sizes.ensures
+    let a = c.args in
+    by_sizes a.layout a.shape a.k a.matrix.now a.work c.check_sizes-sizes.result c.check_sizes-sizes.ensures
     (refused_of c.accepted.result c.check_sizes-sizes.result c.accepted.ensures c.if-not-accepted.true-raw)
 
 pub returns-then-k-shape : goal.returns-then-k-shape
 returns-then-k-shape c =
-    let n = c.args.shape.order in
-    let e = rule14_refused n c.args.k (omega arith) in
-    c.refusal.ensures ∙ sym (first_refused (rule14 n c.args.k) _ (ap accepted e) ∙ e) ∙ sym (past_sizes c.before.before.before)
+    let a = c.args in
+    let n = a.shape.order in
+    let e = rule14_refused n a.k (omega arith) in
+    let passed = accepted_of c.accepted.result c.check_sizes-sizes.result c.accepted.ensures c.if-not-accepted.false-raw in
+    c.refusal.ensures ∙ sym (first_refused (rule14 n a.k) _ (ap accepted e) ∙ e)
+    ∙ sym (past_sizes a.layout a.shape a.k a.matrix.now a.work c.check_sizes-sizes.result c.check_sizes-sizes.ensures passed)
 
 pub check_columns_from-values-requires : goal.check_columns_from-values-requires
 check_columns_from-values-requires c =
-    let known = settled c.before.before in
+    let a = c.args in
+    let known =
+    settled a.layout a.shape a.k a.matrix.now a.work c.check_sizes-sizes.result c.check_sizes-sizes.ensures
+    (accepted_of c.accepted.result c.check_sizes-sizes.result c.accepted.ensures c.if-not-accepted.false-raw) in
     record { order_le_max_order = (known.order, omega arith); block_nonzero = known.block_low; matrix_len = known.matrix }
 
 pub returns-then-not-accepted-2 : goal.returns-then-not-accepted-2
 returns-then-not-accepted-2 c =
-    let s = c.before.before.before.before.before.before.before.before.before in
-    first_decided (values s) (diagonal s) c.check_columns_from-values.result (c.check_columns_from-values.ensures ∙ sym (finite_alone 6 _))
+    let a = c.args in
+    let passed = accepted_of c.accepted.result c.check_sizes-sizes.result c.accepted.ensures c.if-not-accepted.false-raw in
+    let to_14 = past_sizes a.layout a.shape a.k a.matrix.now a.work c.check_sizes-sizes.result c.check_sizes-sizes.ensures passed in
+    by_values a.layout a.shape a.k a.matrix.now a.work (past_14 a.layout a.shape a.k a.matrix.now a.work to_14 (omega arith))
+    c.check_columns_from-values.result c.check_columns_from-values.ensures
     (refused_of c.accepted-2.result c.check_columns_from-values.result c.accepted-2.ensures c.if-not-accepted-2.true-raw)
-    ∙ sym (past_14 c.before.before.before)
 
 pub check_diagonal-requires : goal.check_diagonal-requires
 check_diagonal-requires c =
-    let known = settled c.before.before.before.before.before in
-    record { order_le_max_order = known.order; block_nonzero = λ t. known.block_low (solver_blocks c.args.layout t); k_le_order = omega arith; matrix_len = known.matrix }
+    let a = c.args in
+    let known =
+    settled a.layout a.shape a.k a.matrix.now a.work c.check_sizes-sizes.result c.check_sizes-sizes.ensures
+    (accepted_of c.accepted.result c.check_sizes-sizes.result c.accepted.ensures c.if-not-accepted.false-raw) in
+    record {
+      order_le_max_order = known.order;
+      block_nonzero = λ t. known.block_low (solver_blocks a.layout t);
+      k_le_order = omega arith;
+      matrix_len = known.matrix;
+    }
 
 pub returns : goal.returns
 returns c =
-    let n = c.args.shape.order in
-    c.check_diagonal.ensures
-    ∙ sym (rule9_alone (place_of c.args.layout n c.args.shape.block) c.args.k n c.args.matrix.now)
-    ∙ sym (past_values c.before)
+    let a = c.args in
+    let n = a.shape.order in
+    let passed = accepted_of c.accepted.result c.check_sizes-sizes.result c.accepted.ensures c.if-not-accepted.false-raw in
+    let to_14 = past_sizes a.layout a.shape a.k a.matrix.now a.work c.check_sizes-sizes.result c.check_sizes-sizes.ensures passed in
+    let to_values = past_14 a.layout a.shape a.k a.matrix.now a.work to_14 (omega arith) in
+    c.check_diagonal.ensures ∙ sym (rule9_alone (place_of a.layout n a.shape.block) a.k n a.matrix.now)
+    ∙ sym (past_values a.layout a.shape a.k a.matrix.now a.work to_values c.check_columns_from-values.result c.check_columns_from-values.ensures
+    (accepted_of c.accepted-2.result c.check_columns_from-values.result c.accepted-2.ensures c.if-not-accepted-2.false-raw))

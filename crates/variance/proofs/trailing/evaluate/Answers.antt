@@ -1,7 +1,6 @@
 -- `variance::trailing::evaluate` meets its contract. Assumes nothing.
 use Prim.Native.Nat.{◌-◌}
 use mathlib.Core.Path.{ap, ◌∙◌, subst}
-use borrow.Author.Rules.{rules}
 use borrow.Author.Tests.{not-true, not-false}
 use Rattle.calls.specs.Variances.{unit_rhs}
 use Rattle.solve.specs.Solving.{factor_of, Substituted}
@@ -15,7 +14,8 @@ returns-then-not-substitute c =
     let l = factor_of a.layout a.shape.order a.shape.block a.k a.matrix.now in
     let made = c.unit_rhs.ensures ∙ ap (λ q. unit_rhs q 0) c.requires.checked.work_length in
     c.refusal.ensures ∙ verdict_refused p l c.substitute.result c.substitute.new.work
-    (subst (λ rhs. Substituted p l rhs c.substitute.result c.substitute.new.work) made c.substitute.ensures) (not-true c.substitute.result c.if-not-substitute.true-raw)
+    (subst (λ rhs. Substituted p l rhs c.substitute.result c.substitute.new.work) made c.substitute.ensures)
+    (not-true c.substitute.result c.if-not-substitute.true-raw)
 
 pub returns : goal.returns
 returns c =
@@ -24,4 +24,5 @@ returns c =
     let l = factor_of a.layout a.shape.order a.shape.block a.k a.matrix.now in
     let made = c.unit_rhs.ensures ∙ ap (λ q. unit_rhs q 0) c.requires.checked.work_length in
     verdict_found p l c.substitute.result c.substitute.new.work
-    (subst (λ rhs. Substituted p l rhs c.substitute.result c.substitute.new.work) made c.substitute.ensures) (not-false c.substitute.result c.if-not-substitute.false-raw)
+    (subst (λ rhs. Substituted p l rhs c.substitute.result c.substitute.new.work) made c.substitute.ensures)
+    (not-false c.substitute.result c.if-not-substitute.false-raw)

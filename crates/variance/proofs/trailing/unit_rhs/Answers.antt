@@ -1,6 +1,5 @@
 -- `variance::trailing::unit_rhs` meets its contract. Assumes nothing.
 use mathlib.Core.Path.{ap, ◌∙◌}
-use borrow.Author.Rules.{rules}
 use lib.ListN.{length, set}
 use lib.Ieee.{of_bits}
 use Rattle.binary64.specs.Kinds.{one64}

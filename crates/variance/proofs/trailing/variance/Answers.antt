@@ -1,6 +1,5 @@
 -- `variance::trailing::variance` meets its contract. Assumes nothing.
 use mathlib.Core.Path.{sym}
-use borrow.Author.Rules.{rules}
 use Rattle.calls.proofs.Judging.{refused_of, accepted_of}
 use Rattle.variance.proofs.Outcomes.{checks_refused, work_fits, part_length, unknown_inside, checked, found}
 use Rattle.variance.proofs.trailing.variance.Goals as goal
@@ -27,11 +26,15 @@ slice_bounds-evaluate_cleared-end-2 c =
 pub evaluate_cleared-verdict-requires : goal.evaluate_cleared-verdict-requires
 evaluate_cleared-verdict-requires c =
     let a = c.args in
-    let passed = accepted_of c.accepted.result c.check_variance-checks.result c.accepted.ensures c.if-not-accepted.false-raw in record { checked = checked a.layout a.shape a.k a.matrix.now a.work.now c.check_variance-checks.result c.check_variance-checks.ensures passed; k_lt_order = unknown_inside a.layout a.shape a.k a.matrix.now a.work.now c.check_variance-checks.result c.check_variance-checks.ensures passed }
+    let passed = accepted_of c.accepted.result c.check_variance-checks.result c.accepted.ensures c.if-not-accepted.false-raw in record {
+      checked = checked a.layout a.shape a.k a.matrix.now a.work.now c.check_variance-checks.result c.check_variance-checks.ensures passed;
+      k_lt_order = unknown_inside a.layout a.shape a.k a.matrix.now a.work.now c.check_variance-checks.result c.check_variance-checks.ensures passed;
+    }
 
 pub returns : goal.returns
 returns c =
     let a = c.args in
-    rw (c.result-2.ensures, c.evaluate_cleared-verdict.ensures.1)
+    rw (c.result-2.ensures, c.evaluate_cleared-verdict.ensures.work_after)
     (found a.layout a.shape a.k a.matrix.now a.work.now c.check_variance-checks.result c.check_variance-checks.ensures
-    (accepted_of c.accepted.result c.check_variance-checks.result c.accepted.ensures c.if-not-accepted.false-raw) c.evaluate_cleared-verdict.result c.evaluate_cleared-verdict.ensures.value)
+    (accepted_of c.accepted.result c.check_variance-checks.result c.accepted.ensures c.if-not-accepted.false-raw) c.evaluate_cleared-verdict.result
+    c.evaluate_cleared-verdict.ensures.value)
