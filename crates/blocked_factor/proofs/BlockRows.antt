@@ -22,6 +22,10 @@ module _ (w : ℕ) where
   pub row_lt : (r e s : ℕ) → r < e → s < row_length w r → row_start w r + s < row_start w e
   row_lt r e s h inside = omega (arith, row_starts r, row_starts e, starts_lt (row_length w) r e s h inside)
 
+  -- column s of row r lies in a memory that has room for the rows before e
+  pub row_inside : (len r e s : ℕ) → row_start w e ≤ len → r < e → s ≤ r → s < w → row_start w r + s < len
+  row_inside len r e s room h low wide = omega (arith, row_lt r e s h (omega arith))
+
   pub row_apart : (r r' s s' : ℕ) → s < row_length w r → s' < row_length w r' → row_start w r + s ≡ row_start w r' + s' → (r ≡ r') × (s ≡ s')
   row_apart r r' s s' h h' e = starts_apart (row_length w) r r' s s' h h' (omega (arith, row_starts r, row_starts r'))
 

@@ -14,7 +14,7 @@ use lib.Seq.{get_or-take, length-take-le}
 use lib.Ieee.{Float, nan}
 use lib.Ieee.Bits.{is_true}
 use Rattle.binary64.specs.Kinds.{finite}
-use Rattle.binary64.specs.Root.{root, exact}
+use Rattle.binary64.specs.Root.{root}
 use Rattle.binary64.specs.Judged.{judged}
 use Rattle.calls.specs.declared.Verdict.{Verdict}
 use Rattle.calls.specs.declared.Judgement.{Judgement}

@@ -1,14 +1,8 @@
 -- `blocked_factor::column_finite` meets its contract. The loop's invariant: `finite` is the answer for the rows before r. The measure is what is left of
 -- the rows. Assumes nothing.
-use Prim.Native.Nat.{◌+◌, ◌-◌, ◌≤◌, ◌<◌}
-use native.Mathlib.Omega.{arith}
-use mathlib.Core.Path.{◌≡◌, ap₂, ◌∙◌}
-use mathlib.Core.Bool.{◌&&◌}
-use borrow.Author.Rules.{rules}
-use lib.ListN.{length}
-use Rattle.blocked_factor.specs.BlockColumns.{row_start, column_finite}
-use Rattle.blocked_factor.proofs.BlockRows.{row_lt}
-use Rattle.blocked_factor.proofs.BlockVerdicts.{column_none, column_next}
+use Prim.Native.Nat.{◌-◌, ◌≤◌, ◌<◌}
+use mathlib.Core.Path.{◌≡◌}
+use Rattle.blocked_factor.specs.BlockColumns.{column_finite}
 use Rattle.blocked_factor.proofs.column_finite.Given as goal
 
 abbrev pub invariant-loop-r : goal.invariant-loop-r

@@ -1,5 +1,4 @@
 -- `blocked_factor::diagonal_of` meets its contract, by cases on the pivot. Assumes nothing.
-use borrow.Author.Rules.{rules}
 use Rattle.blocked_factor.proofs.diagonal_of.Goals as goal
 
 pub returns-in-Refused : goal.returns-in-Refused

@@ -1,17 +1,9 @@
 -- `blocked_factor::factor_blocks` meets its contract. Assumes nothing.
-use Prim.Native.Nat.{◌-◌, ◌≤◌, ◌<◌}
 use native.Mathlib.Omega.{arith}
-use mathlib.Core.Path.{◌≡◌, refl, ◌∙◌}
-use mathlib.Core.Bool.{true}
-use borrow.Author.Rules.{rules}
-use lib.ListN.{length}
-use Rattle.shape.specs.Places.{block_of}
+use mathlib.Core.Path.{◌≡◌, refl, sym, ◌∙◌}
 use Rattle.shape.proofs.Blocks.{block_of_le, width_pos}
-use Rattle.calls.specs.Refusals.{accepted}
-use Rattle.calls.proofs.Judging.{accepted_of, refused_of}
-use Rattle.blocked_factor.specs.BlockSteps.{BlockAt}
 use Rattle.blocked_factor.proofs.EarlierBlocks.{inside_le}
-use Rattle.blocked_factor.proofs.BlockLoop.{Reached, block_at, next_first, reached_none, reached_next, blocks_refused, blocks_all}
+use Rattle.blocked_factor.proofs.BlockLoop.{block_at, next_first, reached_none, reached_next, blocks_refused, blocks_all}
 use Rattle.blocked_factor.proofs.factor_blocks.Goals as goal
 
 pub loop-c-init : goal.loop-c-init
@@ -23,16 +15,13 @@ loop-c-init c = (
   rw c.refusal.ensures (reached_none _ _ _),
 )
 
--- the block column of a turn
-here :
-    (c : goal.In-loop-c) →
-    let a = c.args in
-    BlockAt a.shape.order a.shape.block c.loop-c.c (length c.loop-c.m)
-here c =
-    block_at c.loop-c.c _ c.requires c.loop-c.invariant.4.kept c.loop-c-test.true (c.loop-c.invariant.1 c.loop-c-test.true)
-
+-- the block column of a turn begins with column c
 pub factor_step-step-requires : goal.factor_step-step-requires
-factor_step-step-requires c = record { block_at = here c.before.before; work_len = c.loop-c.invariant.2 ∙ c.requires.work }
+factor_step-step-requires c =
+    record {
+      block_at = block_at _ _ c.requires c.loop-c.invariant.4.kept c.loop-c-test.true (c.loop-c.invariant.1 c.loop-c-test.true);
+      work_len = c.loop-c.invariant.2 ∙ c.requires.work;
+    }
 
 pub shape_of-m-then-not-accepted : goal.shape_of-m-then-not-accepted
 shape_of-m-then-not-accepted c = c.factor_step-step.ensures.kept ∙ c.loop-c.invariant.4.kept
@@ -42,27 +31,28 @@ shape_of-work-then-not-accepted c = c.factor_step-step.auto.work ∙ c.loop-c.in
 
 pub returns-then-not-accepted : goal.returns-then-not-accepted
 returns-then-not-accepted c =
-    let refused = refused_of c.accepted.result c.factor_step-step.result.verdict c.accepted.ensures c.if-not-accepted.true-raw in
-    blocks_refused (here c.before.before.before.before.before.before.before.before.before.before) c.loop-c.invariant.4 c.factor_step-step.ensures refused
+    let now = block_at _ _ c.requires c.loop-c.invariant.4.kept c.loop-c-test.true (c.loop-c.invariant.1 c.loop-c-test.true) in
+    let refused = sym c.accepted.ensures ∙ c.if-not-accepted.true in
+    blocks_refused now c.loop-c.invariant.4 c.factor_step-step.ensures refused
 
 pub block_width-requires : goal.block_width-requires
 block_width-requires c = omega (arith, c.loop-c-test.true)
 
 pub overflow_add-next : goal.overflow_add-next
 overflow_add-next c =
-    let now = here c.before.before.before.before.before.before.before.before.before.before.before in
+    let now = block_at _ _ c.requires c.loop-c.invariant.4.kept c.loop-c-test.true (c.loop-c.invariant.1 c.loop-c-test.true) in
     omega (arith, c.block_width.ensures, inside_le now, now.order)
 
 pub loop-c-smaller : goal.loop-c-smaller
 loop-c-smaller c =
     let a = c.args in
-    let now = here c.before.before.before.before.before.before.before.before.before.before.before in
+    let now = block_at _ _ c.requires c.loop-c.invariant.4.kept c.loop-c-test.true (c.loop-c.invariant.1 c.loop-c-test.true) in
     omega (arith, c.block_width.ensures, inside_le now, width_pos a.shape.order a.shape.block c.loop-c.c (omega (arith, now.block)) now.inside)
 
 pub loop-c-preserved : goal.loop-c-preserved
 loop-c-preserved c =
-    let now = here c.before.before.before.before.before.before.before.before.before.before.before in
-    let passed = accepted_of c.accepted.result c.factor_step-step.result.verdict c.accepted.ensures c.if-not-accepted.false-raw in
+    let now = block_at _ _ c.requires c.loop-c.invariant.4.kept c.loop-c-test.true (c.loop-c.invariant.1 c.loop-c-test.true) in
+    let passed = sym c.accepted.ensures ∙ c.if-not-accepted.false in
     let same = c.block_width.ensures in (
       omega (arith, same, inside_le now),
       rw (← same) at (next_first now),

@@ -1,17 +1,11 @@
 -- `blocked_factor::factor_blocks` meets its contract. Assumes nothing.
 use Prim.Native.Nat.{◌-◌, ◌≤◌, ◌<◌}
-use native.Mathlib.Omega.{arith}
-use mathlib.Core.Path.{◌≡◌, refl, ◌∙◌}
+use mathlib.Core.Path.{◌≡◌}
 use mathlib.Core.Bool.{true}
-use borrow.Author.Rules.{rules}
 use lib.ListN.{length}
 use Rattle.shape.specs.Places.{block_of}
-use Rattle.shape.proofs.Blocks.{block_of_le, width_pos}
 use Rattle.calls.specs.Refusals.{accepted}
-use Rattle.calls.proofs.Judging.{accepted_of, refused_of}
-use Rattle.blocked_factor.specs.BlockSteps.{BlockAt}
-use Rattle.blocked_factor.proofs.EarlierBlocks.{inside_le}
-use Rattle.blocked_factor.proofs.BlockLoop.{Reached, block_at, next_first, reached_none, reached_next, blocks_refused, blocks_all}
+use Rattle.blocked_factor.proofs.BlockLoop.{Reached}
 use Rattle.blocked_factor.proofs.factor_blocks.Given as goal
 
 abbrev pub invariant-loop-c : goal.invariant-loop-c

@@ -1,11 +1,7 @@
 -- `blocked_factor::factor_panels` meets its contract. The loop's invariant: the columns before s0 are finished, and judged by their pivots, and the saved
 -- entry values stay. The measure is what is left of the columns. Assumes nothing.
-use Prim.Native.Nat.{◌-◌, ◌≤◌}
 use native.Mathlib.Omega.{arith}
 use mathlib.Core.Path.{◌≡◌, refl, ◌∙◌}
-use lib.ListN.{length}
-use Rattle.blocked_factor.specs.BlockColumns.{row_start, SameTo}
-use Rattle.blocked_factor.specs.BlockStages.{ColumnsFinished}
 use Rattle.blocked_factor.proofs.Finishing.{same_join, columns_none, columns_join}
 use Rattle.blocked_factor.proofs.factor_panels.Goals as goal
 
@@ -19,10 +15,11 @@ pub least-g-requires : goal.least-g-requires
 least-g-requires c = tt
 
 pub factor_panel-next-requires : goal.factor_panel-next-requires
-factor_panel-next-requires c = (
-  omega (arith, c.requires.width_le_rows, c.least-g.ensures, c.loop-s0-test.true, c.loop-s0.invariant.3.kept),
-  (omega (arith, c.least-g.ensures), omega (arith, c.requires.rows_in_bounds, c.loop-s0.invariant.1)),
-)
+factor_panel-next-requires c = record {
+  g_bound = omega (arith, c.requires.width_le_rows, c.least-g.ensures, c.loop-s0-test.true, c.loop-s0.invariant.3.kept);
+  g_bound_2 = omega (arith, c.least-g.ensures);
+  rows_in_bounds = omega (arith, c.requires.rows_in_bounds, c.loop-s0.invariant.1);
+}
 
 pub overflow_add-s0 : goal.overflow_add-s0
 overflow_add-s0 c = omega (arith, c.requires, c.least-g.ensures, c.loop-s0-test.true)
@@ -34,7 +31,7 @@ pub loop-s0-preserved : goal.loop-s0-preserved
 loop-s0-preserved c = (
   omega (arith, c.least-g.ensures, c.loop-s0-test.true),
   c.factor_panel-next.auto.work ∙ c.loop-s0.invariant.1,
-  same_join c.loop-s0.invariant.2 c.factor_panel-next.ensures.1,
+  same_join c.loop-s0.invariant.2 c.factor_panel-next.ensures.same_to,
   columns_join (omega (arith, c.requires.width_le_rows)) c.loop-s0.invariant.2 c.loop-s0.invariant.3 c.factor_panel-next.ensures.columns_finished,
 )
 

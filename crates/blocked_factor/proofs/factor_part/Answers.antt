@@ -1,16 +1,14 @@
 -- `blocked_factor::factor_part` meets its contract. Assumes nothing.
-use Prim.Native.Nat.{◌+◌, ◌-◌, ◌≤◌}
+use Prim.Native.Nat.{ℕ, ◌+◌, ◌-◌, ◌≤◌}
 use native.Mathlib.Omega.{arith}
 use mathlib.Core.Path.{◌≡◌}
-use mathlib.Core.List.{◌++◌}
-use borrow.Author.Rules.{rules}
-use lib.ListN.{length, take, drop}
+use lib.ListN.{length}
 use lib.Ieee.{nan}
-use Rattle.shape.specs.Places.{block_start, width}
+use Rattle.shape.specs.Places.{block_start, block_work, width}
 use Rattle.shape.proofs.Blocks.{width_le}
-use Rattle.kernels.specs.Kernels.{Replaced}
 use Rattle.kernels.proofs.Parts.{length_part}
 use Rattle.blocked_factor.specs.BlockColumns.{row_start}
+use Rattle.blocked_factor.specs.BlockSteps.{BlockAt}
 use Rattle.blocked_factor.proofs.EarlierBlocks.{block_room}
 use Rattle.blocked_factor.proofs.Finishing.{rest_replaced, lent_same, same_join}
 use Rattle.blocked_factor.proofs.BlockParts.{size_le, spare_two, block_factored}
@@ -18,93 +16,90 @@ use Rattle.blocked_factor.proofs.factor_part.Goals as goal
 
 -- the saved entry values are the front of the work memory
 front :
-    (c : goal.After-place_in_block-size) →
-    let a = c.args in
-    let size = c.place_in_block-size.result in
-    (size ≡ row_start (width a.shape.order a.shape.block a.c) (a.shape.order - a.c)) × (size ≤ length a.work.now)
-front c =
-    let size = rw c.block_width-width.ensures at c.place_in_block-size.ensures in
-    (size, omega (arith, size, c.requires.work_len, size_le c.requires.block_at))
+    {n b c len size w work_length : ℕ} → BlockAt n b c len → work_length ≡ block_work n b → w ≡ width n b c → size ≡ row_start w (n - c) →
+    (size ≡ row_start (width n b c) (n - c)) × (size ≤ work_length)
+front here full wide e =
+    let size = rw wide at e in
+    (size, omega (arith, size, full, size_le here))
 
 pub offset_bounds-work-size : goal.offset_bounds-work-size
-offset_bounds-work-size c = omega (arith, front c.before, c.well_formed)
+offset_bounds-work-size c =
+    omega (arith, front c.requires.block_at c.requires.work_len c.block_width-width.ensures c.place_in_block-size.ensures, c.well_formed)
 
 pub slice_bounds-update_by_runs-count : goal.slice_bounds-update_by_runs-count
-slice_bounds-update_by_runs-count c = omega (arith, front c.before)
+slice_bounds-update_by_runs-count c =
+    omega (arith, front c.requires.block_at c.requires.work_len c.block_width-width.ensures c.place_in_block-size.ensures)
 
 pub slice_bounds-update_by_runs-start : goal.slice_bounds-update_by_runs-start
-slice_bounds-update_by_runs-start c = omega (arith, front c.before)
+slice_bounds-update_by_runs-start c =
+    omega (arith, front c.requires.block_at c.requires.work_len c.block_width-width.ensures c.place_in_block-size.ensures)
 
 pub update_by_runs-requires : goal.update_by_runs-requires
 update_by_runs-requires c =
-    let placed = c.before.before in
     let work = c.args.work.now in
-    let size = c.place_in_block-size.result in record { block_at = c.requires.block_at; block_in_bounds = λ later. omega (arith, length_part nan size (length work - size) work (omega (arith, (front placed).1)), (front placed).0, c.requires.work_len, spare_two c.requires.block_at later) }
-
--- and stay
-lent :
-    (c : goal.After-update_by_runs) →
     let size = c.place_in_block-size.result in
-    let work = c.args.work.now in
-    let spare = c.update_by_runs.new.spare in
-    Replaced nan size (length work - size) work spare (take size work ++ (spare ++ drop (length work - size) (drop size work)))
-lent c =
-    let placed = c.before.before.before in
-    rest_replaced c.place_in_block-size.result c.args.work.now c.update_by_runs.new.spare (front placed).1
-    c.update_by_runs.auto.spare
+    let front = front c.requires.block_at c.requires.work_len c.block_width-width.ensures c.place_in_block-size.ensures in record {
+      block_at = c.requires.block_at;
+      block_in_bounds = λ later.
+          omega (
+            arith,
+            length_part nan size (length work - size) work (omega (arith, front.1)),
+            front.0,
+            c.requires.work_len,
+            spare_two c.requires.block_at later,
+          );
+    }
 
--- the block column lies in the matrix memory
-room :
-    (c : goal.After-update_by_runs) →
-    let a = c.args in
-    let w = width a.shape.order a.shape.block a.c in
-    block_start a.shape.order a.c + row_start w (a.shape.order - a.c) ≤ length c.update_by_runs.new.m
-room c = omega (arith, block_room c.requires.block_at, c.update_by_runs.ensures.kept)
-
+-- and the block column lies in the matrix memory
 pub offset_bounds-m-start : goal.offset_bounds-m-start
 offset_bounds-m-start c =
-    let updated = c.before.before.before.before in
-    omega (arith, c.block_start-start.ensures, room updated, c.update_by_runs.ensures.kept, c.well_formed)
+    omega (arith, c.block_start-start.ensures, block_room c.requires.block_at, c.update_by_runs.ensures.kept, c.well_formed)
 
 pub slice_bounds-factor_block-count : goal.slice_bounds-factor_block-count
 slice_bounds-factor_block-count c =
-    let updated = c.before.before.before.before in
-    omega (arith, c.block_start-start.ensures, room updated)
+    omega (arith, c.block_start-start.ensures, block_room c.requires.block_at, c.update_by_runs.ensures.kept)
 
 pub slice_bounds-factor_block-start : goal.slice_bounds-factor_block-start
 slice_bounds-factor_block-start c =
-    let updated = c.before.before.before.before in
-    omega (arith, c.block_start-start.ensures, room updated)
+    omega (arith, c.block_start-start.ensures, block_room c.requires.block_at, c.update_by_runs.ensures.kept)
 
 pub factor_block-requires : goal.factor_block-requires
 factor_block-requires c =
-    let updated = c.before.before.before.before.before.before in
-    let placed = c.before.before.before.before.before.before.before.before.before in
+    let front = front c.requires.block_at c.requires.work_len c.block_width-width.ensures c.place_in_block-size.ensures in
+    let lent = rest_replaced c.place_in_block-size.result c.args.work.now c.update_by_runs.new.spare front.1 c.update_by_runs.auto.spare in
     let a = c.args in
     let m = c.update_by_runs.new.m in
     let start = block_start a.shape.order a.c in
-    let inside = room updated in
-    rw (c.block_start-start.ensures, c.block_width-width.ensures) (
-      (
+    let inside : start + row_start (width a.shape.order a.shape.block a.c) (a.shape.order - a.c) ≤ length m =
+    omega (arith, block_room c.requires.block_at, c.update_by_runs.ensures.kept)
+    in
+    rw (c.block_start-start.ensures, c.block_width-width.ensures)
+    (record {
+      width_le_rows = (
         width_le a.shape.order a.shape.block a.c,
         omega (arith, c.requires.block_at.order, c.requires.block_at.inside),
         omega (arith, length_part nan start (length m - start) m (omega arith)),
-      ),
-      omega (arith, front placed, (lent updated).size),
-    )
+      );
+      rows_in_bounds = omega (arith, front, lent.size);
+    })
 
 pub returns : goal.returns
 returns c =
-    let updated = c.before.before.before.before.before.before.before.before.before.before.before in
-    let placed = c.before.before.before.before.before.before.before.before.before.before.before.before.before.before in
+    let front = front c.requires.block_at c.requires.work_len c.block_width-width.ensures c.place_in_block-size.ensures in
+    let lent = rest_replaced c.place_in_block-size.result c.args.work.now c.update_by_runs.new.spare front.1 c.update_by_runs.auto.spare in
     let a = c.args in
     let m = c.update_by_runs.new.m in
     let start = block_start a.shape.order a.c in
-    let inside = room updated in
+    let inside : start + row_start (width a.shape.order a.shape.block a.c) (a.shape.order - a.c) ≤ length m =
+    omega (arith, block_room c.requires.block_at, c.update_by_runs.ensures.kept)
+    in
     let at = c.block_start-start.ensures in
     let factored = rw (at, c.block_width-width.ensures) at c.factor_block.ensures in
-    let same = lent_same (front placed).0 (lent updated) in
-    rw at (
-      block_factored c.requires.block_at same c.update_by_runs.ensures factored.0 (rest_replaced start m c.factor_block.new.part (omega arith) factored.0.kept),
-      same_join same factored.1,
-    )
+    let same = lent_same front.0 lent in
+    rw at
+    (record {
+      block_factored =
+          block_factored c.requires.block_at same c.update_by_runs.ensures factored.block_column_factored
+          (rest_replaced start m c.factor_block.new.part (omega arith) factored.block_column_factored.kept);
+      same_to = same_join same factored.same_to;
+    })

@@ -1,10 +1,9 @@
 -- `blocked_factor::finish_below` meets its contract. The loop's invariant: the rows before r are finished. The measure is what is left of the rows.
 -- Assumes nothing.
-use Prim.Native.Nat.{◌+◌, ◌-◌, ◌≤◌}
+use Prim.Native.Nat.{◌+◌}
 use native.Mathlib.Nat.{le_refl}
 use native.Mathlib.Omega.{arith}
 use mathlib.Core.Path.{◌≡◌}
-use Rattle.blocked_factor.specs.BlockStages.{BelowFinished}
 use Rattle.blocked_factor.proofs.BlockRows.{row_mono}
 use Rattle.blocked_factor.proofs.Finishing.{below_none, below_next}
 use Rattle.blocked_factor.proofs.finish_below.Goals as goal
@@ -18,7 +17,15 @@ overflow_sub-rows c = omega (arith, c.loop-r-test.true)
 pub finish_rows8-requires : goal.finish_rows8-requires
 finish_rows8-requires c =
     let a = c.args in
-    omega (arith, c.requires, c.loop-r-test.true, c.if-rows-r-ge8.true, c.loop-r.invariant.0, c.loop-r.invariant.2.kept, row_mono a.width (c.loop-r.r + 8) a.rows (omega (arith, c.loop-r-test.true, c.if-rows-r-ge8.true)))
+    omega (
+      arith,
+      c.requires,
+      c.loop-r-test.true,
+      c.if-rows-r-ge8.true,
+      c.loop-r.invariant.0,
+      c.loop-r.invariant.2.kept,
+      row_mono a.width (c.loop-r.r + 8) a.rows (omega (arith, c.loop-r-test.true, c.if-rows-r-ge8.true)),
+    )
 
 pub overflow_add-r : goal.overflow_add-r
 overflow_add-r c = omega (arith, c.requires, c.loop-r-test.true, c.if-rows-r-ge8.true)
@@ -36,7 +43,14 @@ loop-r-preserved-then-rows-r-ge8 c = (
 pub finish_row-requires : goal.finish_row-requires
 finish_row-requires c =
     let a = c.args in
-    omega (arith, c.requires, c.loop-r-test.true, c.loop-r.invariant.0, c.loop-r.invariant.2.kept, row_mono a.width (c.loop-r.r + 1) a.rows (omega (arith, c.loop-r-test.true)))
+    omega (
+      arith,
+      c.requires,
+      c.loop-r-test.true,
+      c.loop-r.invariant.0,
+      c.loop-r.invariant.2.kept,
+      row_mono a.width (c.loop-r.r + 1) a.rows (omega (arith, c.loop-r-test.true)),
+    )
 
 pub overflow_add-r-else-rows-r-ge8 : goal.overflow_add-r-else-rows-r-ge8
 overflow_add-r-else-rows-r-ge8 c = omega (arith, c.requires, c.loop-r-test.true)

@@ -1,12 +1,7 @@
 -- `blocked_factor::finish_below` meets its contract. The loop's invariant: the rows before r are finished. The measure is what is left of the rows.
 -- Assumes nothing.
-use Prim.Native.Nat.{◌+◌, ◌-◌, ◌≤◌}
-use native.Mathlib.Nat.{le_refl}
-use native.Mathlib.Omega.{arith}
-use mathlib.Core.Path.{◌≡◌}
+use Prim.Native.Nat.{◌-◌, ◌≤◌}
 use Rattle.blocked_factor.specs.BlockStages.{BelowFinished}
-use Rattle.blocked_factor.proofs.BlockRows.{row_mono}
-use Rattle.blocked_factor.proofs.Finishing.{below_none, below_next}
 use Rattle.blocked_factor.proofs.finish_below.Given as goal
 
 abbrev pub invariant-loop-r : goal.invariant-loop-r

@@ -1,31 +1,20 @@
 -- `blocked_factor::finish_row` meets its contract. The loop's invariant: the row is finished in columns s0 .. s − 1. The measure is what is left of the
 -- columns. Assumes nothing.
-use Prim.Native.Nat.{◌+◌, ◌-◌, ◌≤◌, ◌<◌}
+use Prim.Native.Nat.{ℕ, ◌+◌, ◌≤◌, ◌<◌}
 use native.Mathlib.Nat.{le_refl}
 use native.Mathlib.Omega.{arith}
-use mathlib.Core.Path.{◌≡◌, sym, subst}
-use lib.ListN.{length}
-use Rattle.blocked_factor.specs.BlockColumns.{row_start, ColumnDivided}
-use Rattle.blocked_factor.specs.BlockStages.{RowsFinished}
-use Rattle.blocked_factor.proofs.BlockRows.{row_next, row_lt}
+use mathlib.Core.Path.{◌≡◌}
+use Rattle.blocked_factor.specs.BlockColumns.{row_start}
+use Rattle.blocked_factor.proofs.BlockRows.{row_next, row_inside}
 use Rattle.blocked_factor.proofs.Finishing.{divided_one, rows_none, rows_next}
 use Rattle.blocked_factor.proofs.finish_row.Goals as goal
 
 -- in a turn the entry and its column's diagonal lie in the memory
-inside : (c : goal.In-loop-s)
-    → let a = c.args in
-    let s = c.loop-s.s in
-    (row_start a.width a.r + s < length a.part.now) × (row_start a.width s + s < length a.part.now)
-inside c =
-    let a = c.args in
-    let s = c.loop-s.s in
-    omega (
-      arith,
-      c.requires,
-      c.loop-s-test.true,
-      row_next a.width a.r,
-      row_lt a.width s (a.r + 1) s (omega (arith, c.requires, c.loop-s-test.true)) (omega (arith, c.requires, c.loop-s-test.true)),
-    )
+inside : (w r s len : ℕ) → row_start w (r + 1) ≤ len → s < r → s < w → (row_start w r + s < len) × (row_start w s + s < len)
+inside w r s len room low wide = (
+  row_inside w len r (r + 1) s room (omega arith) (omega arith) wide,
+  row_inside w len s (r + 1) s room (omega arith) (omega arith) wide,
+)
 
 pub place_in_block-requires : goal.place_in_block-requires
 place_in_block-requires c = omega (arith, c.requires)
@@ -41,14 +30,26 @@ pub place_in_block-requires-in-loop-s : goal.place_in_block-requires-in-loop-s
 place_in_block-requires-in-loop-s c = omega (arith, c.requires)
 
 pub overflow_add-y : goal.overflow_add-y
-overflow_add-y c = omega (arith, c.place_in_block-in-loop-s.ensures, c.well_formed, inside c.before)
+overflow_add-y c =
+    omega (
+      arith,
+      c.place_in_block-in-loop-s.ensures,
+      c.well_formed,
+      inside c.args.width c.args.r c.loop-s.s _ c.requires.4 (omega arith) (omega arith),
+    )
 
 pub overflow_sub-s : goal.overflow_sub-s
 overflow_sub-s c = omega (arith, c.loop-s.invariant.0)
 
 pub divide_entry-requires : goal.divide_entry-requires
 divide_entry-requires c =
-    omega (arith, c.place_in_block-in-loop-s.ensures, c.place_in_block.ensures, c.loop-s.invariant.2.kept, inside c.before.before)
+    omega (
+      arith,
+      c.place_in_block-in-loop-s.ensures,
+      c.place_in_block.ensures,
+      c.loop-s.invariant.2.kept,
+      inside c.args.width c.args.r c.loop-s.s _ c.requires.4 (omega arith) (omega arith),
+    )
 
 pub overflow_add-s : goal.overflow_add-s
 overflow_add-s c = omega (arith, c.loop-s-test.true, c.requires)
@@ -65,7 +66,7 @@ loop-s-preserved c =
       omega (arith, c.loop-s.invariant.0),
       omega (arith, taken),
       rows_next c.loop-s.invariant.0 (omega (arith, pre, taken)) (omega (arith, pre, taken)) c.loop-s.invariant.2
-          (subst (λ m. ColumnDivided a.width a.s0 c.loop-s.s a.r (a.r + 1) c.loop-s.part m) (sym divided)
+          (rw divided
           (divided_one a.width a.s0 c.loop-s.s a.r c.loop-s.invariant.0 (omega (arith, pre, taken)) (omega (arith, pre, taken)) c.loop-s.part
           (omega (arith, pre, c.loop-s.invariant.2.kept)))),
     )

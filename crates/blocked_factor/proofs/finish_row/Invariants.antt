@@ -1,14 +1,7 @@
 -- `blocked_factor::finish_row` meets its contract. The loop's invariant: the row is finished in columns s0 .. s − 1. The measure is what is left of the
 -- columns. Assumes nothing.
-use Prim.Native.Nat.{◌+◌, ◌-◌, ◌≤◌, ◌<◌}
-use native.Mathlib.Nat.{le_refl}
-use native.Mathlib.Omega.{arith}
-use mathlib.Core.Path.{◌≡◌, sym, subst}
-use lib.ListN.{length}
-use Rattle.blocked_factor.specs.BlockColumns.{row_start, ColumnDivided}
+use Prim.Native.Nat.{◌+◌, ◌-◌, ◌≤◌}
 use Rattle.blocked_factor.specs.BlockStages.{RowsFinished}
-use Rattle.blocked_factor.proofs.BlockRows.{row_next, row_lt}
-use Rattle.blocked_factor.proofs.Finishing.{divided_one, rows_none, rows_next}
 use Rattle.blocked_factor.proofs.finish_row.Given as goal
 
 abbrev pub invariant-loop-s : goal.invariant-loop-s

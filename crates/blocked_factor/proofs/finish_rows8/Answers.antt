@@ -1,10 +1,8 @@
 -- `blocked_factor::finish_rows8` meets its contract. The loop's invariant: the rows are finished in columns s0 .. s − 1. The measure is what is left of the
 -- columns. Assumes nothing.
-use Prim.Native.Nat.{◌+◌, ◌-◌, ◌≤◌}
 use native.Mathlib.Nat.{le_refl}
 use native.Mathlib.Omega.{arith}
 use mathlib.Core.Path.{◌≡◌}
-use Rattle.blocked_factor.specs.BlockStages.{RowsFinished}
 use Rattle.blocked_factor.proofs.Finishing.{rows_none, rows_next}
 use Rattle.blocked_factor.proofs.finish_rows8.Goals as goal
 
@@ -15,7 +13,11 @@ pub loop-s-init : goal.loop-s-init
 loop-s-init c = (le_refl _, omega (arith, c.requires), rows_none _ _ _ _ _)
 
 pub divide_rows8-requires : goal.divide_rows8-requires
-divide_rows8-requires c = record { s0_le_s = omega (arith, c.requires, c.loop-s-test.true, c.loop-s.invariant.0, c.loop-s.invariant.2.kept); by_index = c.row_places8-at.ensures }
+divide_rows8-requires c =
+    record {
+      s0_le_s = omega (arith, c.requires, c.loop-s-test.true, c.loop-s.invariant.0, c.loop-s.invariant.2.kept);
+      by_index = c.row_places8-at.ensures;
+    }
 
 pub overflow_add-s : goal.overflow_add-s
 overflow_add-s c = omega (arith, c.requires, c.loop-s-test.true)

@@ -1,11 +1,7 @@
 -- `blocked_factor::finish_rows8` meets its contract. The loop's invariant: the rows are finished in columns s0 .. s − 1. The measure is what is left of the
 -- columns. Assumes nothing.
 use Prim.Native.Nat.{◌+◌, ◌-◌, ◌≤◌}
-use native.Mathlib.Nat.{le_refl}
-use native.Mathlib.Omega.{arith}
-use mathlib.Core.Path.{◌≡◌}
 use Rattle.blocked_factor.specs.BlockStages.{RowsFinished}
-use Rattle.blocked_factor.proofs.Finishing.{rows_none, rows_next}
 use Rattle.blocked_factor.proofs.finish_rows8.Given as goal
 
 abbrev pub invariant-loop-s : goal.invariant-loop-s

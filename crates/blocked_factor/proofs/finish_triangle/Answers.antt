@@ -1,12 +1,9 @@
 -- `blocked_factor::finish_triangle` meets its contract. The loop's invariant: the rows before s are finished, and their columns judged by their pivots. The
 -- measure is what is left of the columns. Assumes nothing.
-use Prim.Native.Nat.{◌+◌, ◌-◌, ◌≤◌}
+use Prim.Native.Nat.{◌+◌}
 use native.Mathlib.Nat.{le_refl}
 use native.Mathlib.Omega.{arith}
 use mathlib.Core.Path.{◌≡◌}
-use lib.ListN.{length}
-use Rattle.blocked_factor.specs.BlockColumns.{row_start}
-use Rattle.blocked_factor.specs.BlockStages.{TriangleFinished}
 use Rattle.blocked_factor.proofs.BlockRows.{row_mono}
 use Rattle.blocked_factor.proofs.Finishing.{triangle_none, triangle_next}
 use Rattle.blocked_factor.proofs.finish_triangle.Goals as goal
@@ -15,22 +12,28 @@ pub loop-s-init : goal.loop-s-init
 loop-s-init c = (le_refl _, omega (arith, c.requires), triangle_none _ _ _ _ _ _ _)
 
 -- in a turn the row lies in both memories
-inside :
-    (c : goal.In-loop-s) →
-    let a = c.args in
-    (row_start a.width (c.loop-s.s + 1) ≤ length c.loop-s.part) × (row_start a.width (c.loop-s.s + 1) ≤ length a.saved.now)
-inside c =
-    let low = row_mono c.args.width (c.loop-s.s + 1) c.args.e (omega (arith, c.loop-s-test.true)) in
-    (omega (arith, c.requires, c.loop-s.invariant.2.kept), omega (arith, c.requires))
-
 pub finish_row-requires : goal.finish_row-requires
 finish_row-requires c =
-    omega (arith, c.requires, c.loop-s-test.true, c.loop-s.invariant.0, (inside c.before).0)
+    omega (
+      arith,
+      c.requires,
+      c.loop-s-test.true,
+      c.loop-s.invariant.0,
+      c.loop-s.invariant.2.kept,
+      row_mono c.args.width (c.loop-s.s + 1) c.args.e (omega arith),
+    )
 
 pub finish_diagonal-next-requires : goal.finish_diagonal-next-requires
 finish_diagonal-next-requires c =
-    let turn = c.before.before.before.before.before in
-    omega (arith, c.requires, c.loop-s-test.true, c.loop-s.invariant.0, c.finish_row.ensures.kept, inside turn)
+    omega (
+      arith,
+      c.requires,
+      c.loop-s-test.true,
+      c.loop-s.invariant.0,
+      c.finish_row.ensures.kept,
+      c.loop-s.invariant.2.kept,
+      row_mono c.args.width (c.loop-s.s + 1) c.args.e (omega arith),
+    )
 
 pub overflow_add-s : goal.overflow_add-s
 overflow_add-s c = omega (arith, c.requires, c.loop-s-test.true)

@@ -1,14 +1,7 @@
 -- `blocked_factor::finish_triangle` meets its contract. The loop's invariant: the rows before s are finished, and their columns judged by their pivots. The
 -- measure is what is left of the columns. Assumes nothing.
-use Prim.Native.Nat.{◌+◌, ◌-◌, ◌≤◌}
-use native.Mathlib.Nat.{le_refl}
-use native.Mathlib.Omega.{arith}
-use mathlib.Core.Path.{◌≡◌}
-use lib.ListN.{length}
-use Rattle.blocked_factor.specs.BlockColumns.{row_start}
+use Prim.Native.Nat.{◌-◌, ◌≤◌}
 use Rattle.blocked_factor.specs.BlockStages.{TriangleFinished}
-use Rattle.blocked_factor.proofs.BlockRows.{row_mono}
-use Rattle.blocked_factor.proofs.Finishing.{triangle_none, triangle_next}
 use Rattle.blocked_factor.proofs.finish_triangle.Given as goal
 
 abbrev pub invariant-loop-s : goal.invariant-loop-s

@@ -1,11 +1,9 @@
 -- `blocked_factor::lowest_overflow` meets its contract. The loop's invariant: the columns before s are finite. The measure is what is left of the columns.
 -- Assumes nothing.
-use Prim.Native.Nat.{ℕ, ◌-◌, ◌≤◌, ◌<◌}
 use native.Mathlib.Nat.{le_refl}
 use native.Mathlib.Omega.{arith}
 use native.Mathlib.Decide.{dec_lt}
 use mathlib.Core.Path.{◌≡◌, sym, ◌∙◌, subst}
-use borrow.Author.Tests.{not-true, not-false}
 use lib.Dec.{T}
 use lib.Seq.{length-take-le}
 use Rattle.blocked_factor.specs.BlockColumns.{column_finite}
@@ -43,7 +41,7 @@ returns-then-not-column_finite c =
     record {
       inside = c.loop-s.invariant.0;
       before = c.loop-s.invariant.1;
-      here = λ narrow. sym c.column_finite.ensures ∙ not-true _ c.if-not-column_finite.true-raw;
+      here = λ narrow. sym c.column_finite.ensures ∙ c.if-not-column_finite.true;
     }
 
 pub overflow_add-s : goal.overflow_add-s
@@ -55,7 +53,7 @@ loop-s-smaller c = omega (arith, c.loop-s-test.true)
 pub loop-s-preserved : goal.loop-s-preserved
 loop-s-preserved c =
     let a = c.args in
-    let here : T (column_finite a.width a.rows a.part.now c.loop-s.s) = subst T (sym (not-false _ c.if-not-column_finite.false-raw) ∙ c.column_finite.ensures) tt in (
+    let here : T (column_finite a.width a.rows a.part.now c.loop-s.s) = subst T (sym c.if-not-column_finite.false ∙ c.column_finite.ensures) tt in (
       omega (arith, c.loop-s-test.true),
       λ k few.
           elim (dec_lt k c.loop-s.s) [

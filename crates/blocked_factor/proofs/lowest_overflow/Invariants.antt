@@ -1,15 +1,8 @@
 -- `blocked_factor::lowest_overflow` meets its contract. The loop's invariant: the columns before s are finite. The measure is what is left of the columns.
 -- Assumes nothing.
 use Prim.Native.Nat.{ℕ, ◌-◌, ◌≤◌, ◌<◌}
-use native.Mathlib.Nat.{le_refl}
-use native.Mathlib.Omega.{arith}
-use native.Mathlib.Decide.{dec_lt}
-use mathlib.Core.Path.{◌≡◌, sym, ◌∙◌, subst}
-use borrow.Author.Tests.{not-true, not-false}
 use lib.Dec.{T}
-use lib.Seq.{length-take-le}
 use Rattle.blocked_factor.specs.BlockColumns.{column_finite}
-use Rattle.blocked_factor.proofs.BlockVerdicts.{columns_finite}
 use Rattle.blocked_factor.proofs.lowest_overflow.Given as goal
 
 abbrev pub invariant-loop-s : goal.invariant-loop-s

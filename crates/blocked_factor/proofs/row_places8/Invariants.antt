@@ -1,13 +1,9 @@
 -- `blocked_factor::row_places8` meets its contract. Assumes nothing.
-use borrow.Author.Rules.{rules}
 use Prim.Native.Nat.{◌+◌, ◌-◌, ◌≤◌}
-use native.Mathlib.Omega.{arith}
-use mathlib.Core.Path.{◌≡◌, refl, ap}
+use mathlib.Core.Path.{◌≡◌}
 use lib.ListN.{length}
-use Rattle.shape.proofs.Bounds.{triangle_le}
-use Rattle.kernels.proofs.Loops.{Stored, stored_none, stored_next}
+use Rattle.kernels.proofs.Loops.{Stored}
 use Rattle.blocked_factor.specs.BlockColumns.{row_start}
-use Rattle.blocked_factor.proofs.BlockRows.{row_next, row_le_triangle}
 use Rattle.blocked_factor.proofs.row_places8.Given as goal
 
 abbrev pub invariant-loop-k : goal.invariant-loop-k

@@ -1,5 +1,5 @@
 -- `plain_factor::finish_column` meets its contract: its verdict is that of the column's rules, and the matrix changes where it is accepted. Assumes
--- nothing. nothing.
+-- nothing.
 use Prim.Native.Nat.{ℕ, ◌+◌}
 use native.Mathlib.Omega.{arith}
 use mathlib.Core.Path.{◌≡◌, refl, sym, ◌∙◌}

@@ -1,13 +1,10 @@
 -- `blocked_factor::runs::pack_run` meets its contract. The invariant of its loop: the first k columns are packed. Assumes nothing.
-use Prim.Native.Nat.{◌-◌, ◌≤◌}
 use native.Mathlib.Nat.{mul-le-mul_left}
 use native.Mathlib.Omega.{arith}
 use mathlib.Core.Path.{◌≡◌, refl, ap, ◌∙◌}
-use lib.ListN.{length}
-use Rattle.shape.specs.Places.{block_of, block_start}
+use Rattle.shape.specs.Places.{block_start}
 use Rattle.shape.proofs.Bounds.{block_start_le}
 use Rattle.shape.proofs.Blocks.{block_of_le, block_of_next}
-use Rattle.blocked_factor.specs.Runs.{RunPacked}
 use Rattle.blocked_factor.proofs.RunPanels.{block_le, pack_room, pack_next}
 use Rattle.blocked_factor.proofs.runs.pack_run.Goals as goal
 
@@ -21,7 +18,13 @@ pub overflow_add-source : goal.overflow_add-source
 overflow_add-source c =
     let a = c.args in
     let start : c.block_start.result ≡ block_start a.run.order c.loop-k.k = c.block_start.ensures ∙ ap (λ n. block_start n c.loop-k.k) c.loop-k.invariant.3 in
-    omega (arith, start, block_start_le a.run.order c.loop-k.k (omega (arith, c.requires.rows_below.above, c.requires.rows_below.inside)), c.requires.rows_below.size, c.well_formed)
+    omega (
+      arith,
+      start,
+      block_start_le a.run.order c.loop-k.k (omega (arith, c.requires.rows_below.above, c.requires.rows_below.inside)),
+      c.requires.rows_below.size,
+      c.well_formed,
+    )
 
 pub overflow_sub-source : goal.overflow_sub-source
 overflow_sub-source c = omega (arith, c.requires.rows_below.above, c.requires.rows_below.inside)
@@ -36,7 +39,11 @@ pub pack-requires : goal.pack-requires
 pack-requires c =
     let a = c.args in
     let end = block_le c.requires.rows_below c.loop-k.invariant.1 c.loop-k-test.true in
-    let start : c.block_start.result ≡ block_start a.run.order c.loop-k.k = c.block_start.ensures ∙ ap (λ n. block_start n c.loop-k.k) c.loop-k.invariant.3 in record { count_in_bounds = omega (arith, c.requires.g_le_lanes, c.loop-k.invariant.2, mul-le-mul_left a.lanes end, c.requires.rows_below.order, c.requires.rows_below.inside); by_index = rw start (pack_room c.requires.rows_below c.loop-k.invariant.1 c.loop-k-test.true) }
+    let start : c.block_start.result ≡ block_start a.run.order c.loop-k.k = c.block_start.ensures ∙ ap (λ n. block_start n c.loop-k.k) c.loop-k.invariant.3 in
+    record {
+      count_in_bounds = omega (arith, c.requires.g_le_lanes, c.loop-k.invariant.2, mul-le-mul_left a.lanes end, c.requires.rows_below.order, c.requires.rows_below.inside);
+      by_index = rw start (pack_room c.requires.rows_below c.loop-k.invariant.1 c.loop-k-test.true);
+    }
 
 pub overflow_add-k : goal.overflow_add-k
 overflow_add-k c = omega (arith, block_le c.requires.rows_below c.loop-k.invariant.1 c.loop-k-test.true)

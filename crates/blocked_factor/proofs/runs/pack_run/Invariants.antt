@@ -1,14 +1,9 @@
 -- `blocked_factor::runs::pack_run` meets its contract. The invariant of its loop: the first k columns are packed. Assumes nothing.
 use Prim.Native.Nat.{◌-◌, ◌≤◌}
-use native.Mathlib.Nat.{mul-le-mul_left}
-use native.Mathlib.Omega.{arith}
-use mathlib.Core.Path.{◌≡◌, refl, ap, ◌∙◌}
+use mathlib.Core.Path.{◌≡◌}
 use lib.ListN.{length}
-use Rattle.shape.specs.Places.{block_of, block_start}
-use Rattle.shape.proofs.Bounds.{block_start_le}
-use Rattle.shape.proofs.Blocks.{block_of_le, block_of_next}
+use Rattle.shape.specs.Places.{block_of}
 use Rattle.blocked_factor.specs.Runs.{RunPacked}
-use Rattle.blocked_factor.proofs.RunPanels.{block_le, pack_room, pack_next}
 use Rattle.blocked_factor.proofs.runs.pack_run.Given as goal
 
 abbrev pub invariant-loop-k : goal.invariant-loop-k

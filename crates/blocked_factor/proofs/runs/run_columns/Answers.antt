@@ -3,7 +3,6 @@ use native.Mathlib.Omega.{arith}
 use mathlib.Core.Path.{ap₂, ◌∙◌}
 use Rattle.shape.specs.Places.{block_of}
 use Rattle.blocked_factor.proofs.RunTiles.{lanes_le, run_single, run_length}
-use borrow.Author.Rules.{rules}
 use Rattle.blocked_factor.proofs.runs.run_columns.Goals as goal
 
 pub nonzero_div-fit : goal.nonzero_div-fit

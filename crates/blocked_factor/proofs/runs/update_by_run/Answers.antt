@@ -1,11 +1,9 @@
 -- `blocked_factor::runs::update_by_run` meets its contract. The invariant of its loop: the columns before s0 are updated. Assumes nothing.
-use Prim.Native.Nat.{◌+◌, ◌-◌, ◌/◌, ◌≤◌}
+use Prim.Native.Nat.{◌+◌, ◌/◌, ◌≤◌}
 use native.Mathlib.Nat.{mul-le-mul_right, div-mul-le_self, le-div_iff_mul-le}
 use native.Mathlib.Omega.{arith}
 use mathlib.Core.Path.{◌≡◌, refl, ◌∙◌}
 use lib.ListN.{length}
-use Rattle.kernels.specs.Kernels.{run_at}
-use Rattle.blocked_factor.specs.BlockColumns.{PanelUpdated}
 use Rattle.blocked_factor.specs.Runs.{lanes_of}
 use Rattle.blocked_factor.proofs.Panels.{panel_none, columns_next}
 use Rattle.blocked_factor.proofs.RunPanels.{run_kept}
@@ -34,7 +32,8 @@ update_panel_by_run-requires c =
     }
 
 pub overflow_add-s0 : goal.overflow_add-s0
-overflow_add-s0 c = omega (arith, c.panel_width-g.ensures, c.loop-s0-test.true, c.requires.run_before.tall, c.requires.run_before.above, c.requires.run_before.order)
+overflow_add-s0 c =
+    omega (arith, c.panel_width-g.ensures, c.loop-s0-test.true, c.requires.run_before.tall, c.requires.run_before.above, c.requires.run_before.order)
 
 pub loop-s0-smaller : goal.loop-s0-smaller
 loop-s0-smaller c = omega (arith, c.panel_width-g.ensures, c.loop-s0-test.true)

@@ -1,14 +1,9 @@
 -- `blocked_factor::runs::update_by_run` meets its contract. The invariant of its loop: the columns before s0 are updated. Assumes nothing.
-use Prim.Native.Nat.{◌+◌, ◌-◌, ◌/◌, ◌≤◌}
-use native.Mathlib.Nat.{mul-le-mul_right, div-mul-le_self, le-div_iff_mul-le}
-use native.Mathlib.Omega.{arith}
-use mathlib.Core.Path.{◌≡◌, refl, ◌∙◌}
+use Prim.Native.Nat.{◌+◌, ◌-◌, ◌≤◌}
+use mathlib.Core.Path.{◌≡◌}
 use lib.ListN.{length}
 use Rattle.kernels.specs.Kernels.{run_at}
 use Rattle.blocked_factor.specs.BlockColumns.{PanelUpdated}
-use Rattle.blocked_factor.specs.Runs.{lanes_of}
-use Rattle.blocked_factor.proofs.Panels.{panel_none, columns_next}
-use Rattle.blocked_factor.proofs.RunPanels.{run_kept}
 use Rattle.blocked_factor.proofs.runs.update_by_run.Given as goal
 
 abbrev pub invariant-loop-s0 : goal.invariant-loop-s0

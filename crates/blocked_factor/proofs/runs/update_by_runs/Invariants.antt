@@ -1,15 +1,11 @@
 -- `blocked_factor::runs::update_by_runs` meets its contract. The invariant of its loop: the products of the columns before k are subtracted. Assumes
 -- nothing.
-use Prim.Native.Nat.{◌+◌, ◌-◌, ◌≤◌}
-use native.Mathlib.Omega.{arith}
-use mathlib.Core.Path.{◌≡◌, refl, ◌∙◌}
+use Prim.Native.Nat.{◌-◌, ◌≤◌}
+use mathlib.Core.Path.{◌≡◌}
 use lib.ListN.{length}
 use Rattle.shape.specs.Places.{block_of, block_start, width}
-use Rattle.shape.proofs.Blocks.{block_of_le}
-use Rattle.shape.proofs.Runs.{block_of_sum}
 use Rattle.blocked_factor.specs.BlockColumns.{PanelUpdated}
 use Rattle.blocked_factor.specs.BlockSteps.{row_of}
-use Rattle.blocked_factor.proofs.EarlierBlocks.{run_before, earlier_next, earlier_none, rest_whole}
 use Rattle.blocked_factor.proofs.runs.update_by_runs.Given as goal
 
 abbrev pub invariant-loop-k : goal.invariant-loop-k

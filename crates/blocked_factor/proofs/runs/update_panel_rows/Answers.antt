@@ -1,12 +1,8 @@
 -- `blocked_factor::runs::update_panel_rows` meets its contract. The invariant of its loop: the rows before r are updated. Assumes nothing.
-use Prim.Native.Nat.{◌+◌, ◌-◌, ◌≤◌}
+use Prim.Native.Nat.{◌+◌, ◌≤◌}
 use native.Mathlib.Nat.{le_refl}
 use native.Mathlib.Omega.{arith}
 use mathlib.Core.Path.{◌≡◌}
-use borrow.Author.Rules.{rules}
-use borrow.Author.Tests.{leb-true}
-use Rattle.kernels.specs.Kernels.{run_at}
-use Rattle.blocked_factor.specs.BlockColumns.{row_start, PanelUpdated}
 use Rattle.blocked_factor.specs.Runs.{lanes_of, rows_of}
 use Rattle.blocked_factor.proofs.BlockRows.{row_mono}
 use Rattle.blocked_factor.proofs.Panels.{panel_none}
@@ -18,13 +14,34 @@ pub overflow_sub-above : goal.overflow_sub-above
 overflow_sub-above c = omega (arith, c.requires.run_before.above)
 
 pub place_in_block-requires : goal.place_in_block-requires
-place_in_block-requires c = omega (arith, c.requires.run_before.order, c.requires.run_before.above, c.requires.run_before.tall, c.requires.panel_at.0.wide)
+place_in_block-requires c =
+    omega (arith, c.requires.run_before.order, c.requires.run_before.above, c.requires.run_before.tall, c.requires.panel_at.0.wide)
 
 pub overflow_add-y : goal.overflow_add-y
-overflow_add-y c = omega (arith, c.place_in_block.ensures, c.well_formed, c.requires.run_before.room, c.requires.run_before.tall, c.requires.panel_at.0.wide, row_mono c.args.target.width c.args.s0 c.args.target.rows (omega (arith, c.requires.run_before.tall, c.requires.panel_at.0.wide)))
+overflow_add-y c =
+    omega (
+      arith,
+      c.place_in_block.ensures,
+      c.well_formed,
+      c.requires.run_before.room,
+      c.requires.run_before.tall,
+      c.requires.panel_at.0.wide,
+      row_mono c.args.target.width c.args.s0 c.args.target.rows (omega (arith, c.requires.run_before.tall, c.requires.panel_at.0.wide)),
+    )
 
 pub overflow_add-y-2 : goal.overflow_add-y-2
-overflow_add-y-2 c = omega (arith, c.place_in_block.ensures, c.well_formed, c.requires.run_before.room, c.requires.run_before.tall, c.requires.run_before.above, c.requires.run_before.order, c.requires.panel_at.0.wide, row_mono c.args.target.width c.args.s0 c.args.target.rows (omega (arith, c.requires.run_before.tall, c.requires.panel_at.0.wide)))
+overflow_add-y-2 c =
+    omega (
+      arith,
+      c.place_in_block.ensures,
+      c.well_formed,
+      c.requires.run_before.room,
+      c.requires.run_before.tall,
+      c.requires.run_before.above,
+      c.requires.run_before.order,
+      c.requires.panel_at.0.wide,
+      row_mono c.args.target.width c.args.s0 c.args.target.rows (omega (arith, c.requires.run_before.tall, c.requires.panel_at.0.wide)),
+    )
 
 pub loop-r-init : goal.loop-r-init
 loop-r-init c = (
@@ -45,7 +62,7 @@ update_whole_tile-requires c =
     let a = c.args in
     let panel = c.requires.panel_at.0 in
     let size = c.loop-r.invariant.3.kept in
-    let fit : c.loop-r.r + rows_of a.g ≤ a.target.rows = omega (arith, c.loop-r-test.true, c.rows_of-tile.ensures, leb-true, c.if-tile-target.true-raw) in record {
+    let fit : c.loop-r.r + rows_of a.g ≤ a.target.rows = omega (arith, c.loop-r-test.true, c.rows_of-tile.ensures, c.if-tile-target.true) in record {
       g_nonzero = (panel.some, panel.few, omega (arith, panel.wide), c.requires.panel_at.1);
       rows_below = rw size (rows_below c.requires.run_before c.loop-r.r (rows_of a.g) fit);
       by_index = rw (size, c.loop-r.invariant.2)
@@ -53,17 +70,30 @@ update_whole_tile-requires c =
     }
 
 pub overflow_add-r : goal.overflow_add-r
-overflow_add-r c = omega (arith, c.loop-r-test.true, leb-true, c.if-tile-target.true-raw, c.requires.run_before.order, c.requires.run_before.above)
+overflow_add-r c = omega (arith, c.loop-r-test.true, c.if-tile-target.true, c.requires.run_before.order, c.requires.run_before.above)
 
 pub overflow_mul-y : goal.overflow_mul-y
 overflow_mul-y c =
-    let fit : c.loop-r.r + c.rows_of-tile.result ≤ c.args.target.rows = omega (arith, c.loop-r-test.true, leb-true, c.if-tile-target.true-raw) in
-    omega (arith, c.requires.run_before.order, c.requires.run_before.above, c.well_formed, next_tile c.requires.run_before c.loop-r.r c.rows_of-tile.result c.args.s0 c.if-width-r.true c.loop-r.invariant.0 fit)
+    let fit : c.loop-r.r + c.rows_of-tile.result ≤ c.args.target.rows = omega (arith, c.loop-r-test.true, c.if-tile-target.true) in
+    omega (
+      arith,
+      c.requires.run_before.order,
+      c.requires.run_before.above,
+      c.well_formed,
+      next_tile c.requires.run_before c.loop-r.r c.rows_of-tile.result c.args.s0 c.if-width-r.true c.loop-r.invariant.0 fit,
+    )
 
 pub overflow_add-y-then-tile-target : goal.overflow_add-y-then-tile-target
 overflow_add-y-then-tile-target c =
-    let fit : c.loop-r.r + c.rows_of-tile.result ≤ c.args.target.rows = omega (arith, c.loop-r-test.true, leb-true, c.if-tile-target.true-raw) in
-    omega (arith, c.requires.run_before.order, c.requires.run_before.above, c.well_formed, c.loop-r.invariant.2, next_tile c.requires.run_before c.loop-r.r c.rows_of-tile.result c.args.s0 c.if-width-r.true c.loop-r.invariant.0 fit)
+    let fit : c.loop-r.r + c.rows_of-tile.result ≤ c.args.target.rows = omega (arith, c.loop-r-test.true, c.if-tile-target.true) in
+    omega (
+      arith,
+      c.requires.run_before.order,
+      c.requires.run_before.above,
+      c.well_formed,
+      c.loop-r.invariant.2,
+      next_tile c.requires.run_before c.loop-r.r c.rows_of-tile.result c.args.s0 c.if-width-r.true c.loop-r.invariant.0 fit,
+    )
 
 pub loop-r-smaller-then-tile-target : goal.loop-r-smaller-then-tile-target
 loop-r-smaller-then-tile-target c = omega (arith, c.loop-r-test.true, c.rows_of-tile.ensures, (tile_shape c.args.g c.requires.panel_at.0.few).some)
@@ -73,7 +103,7 @@ loop-r-preserved-then-tile-target c =
     let a = c.args in
     let panel = c.requires.panel_at.0 in
     let tile : c.rows_of-tile.result ≡ rows_of a.g = c.rows_of-tile.ensures in
-    let fit : c.loop-r.r + c.rows_of-tile.result ≤ a.target.rows = omega (arith, c.loop-r-test.true, leb-true, c.if-tile-target.true-raw) in (
+    let fit : c.loop-r.r + c.rows_of-tile.result ≤ a.target.rows = omega (arith, c.loop-r-test.true, c.if-tile-target.true) in (
       omega (arith, c.loop-r.invariant.0),
       fit,
       omega (arith, c.loop-r.invariant.2, next_tile c.requires.run_before c.loop-r.r c.rows_of-tile.result a.s0 c.if-width-r.true c.loop-r.invariant.0 fit),
@@ -97,13 +127,26 @@ update_single_row-requires c =
     let panel = c.requires.panel_at.0 in
     let size = c.loop-r.invariant.3.kept in
     let next : c.loop-r.r + 1 ≤ a.target.rows = omega (arith, c.loop-r-test.true) in
-    let room = rows_room c.requires.run_before (single_row a.target.width a.s0 a.g c.loop-r.r c.least.result c.least.ensures) panel.wide c.loop-r.invariant.0 next 0 (omega arith) in record { g_bound = (panel.few, omega (arith, c.least.ensures), c.requires.panel_at.1, omega (arith, room, size, c.loop-r.invariant.2)); rows_below = rw size (rows_below c.requires.run_before c.loop-r.r 1 next) }
+    let room = rows_room c.requires.run_before (single_row a.target.width a.s0 a.g c.loop-r.r c.least.result c.least.ensures) panel.wide c.loop-r.invariant.0 next 0 (omega arith) in
+    record {
+      g_bound = (panel.few, omega (arith, c.least.ensures), c.requires.panel_at.1, omega (arith, room, size, c.loop-r.invariant.2));
+      rows_below = rw size (rows_below c.requires.run_before c.loop-r.r 1 next);
+    }
 
 pub overflow_add-r-else-width-r-2 : goal.overflow_add-r-else-width-r-2
 overflow_add-r-else-width-r-2 c = omega (arith, c.loop-r-test.true, c.requires.run_before.order, c.requires.run_before.above)
 
 pub overflow_add-y-else-width-r : goal.overflow_add-y-else-width-r
-overflow_add-y-else-width-r c = omega (arith, c.least-y.ensures, c.loop-r.invariant.2, c.requires.run_before.order, c.requires.run_before.above, c.well_formed, next_row c.requires.run_before c.loop-r.r c.args.s0 c.loop-r.invariant.0 c.loop-r-test.true)
+overflow_add-y-else-width-r c =
+    omega (
+      arith,
+      c.least-y.ensures,
+      c.loop-r.invariant.2,
+      c.requires.run_before.order,
+      c.requires.run_before.above,
+      c.well_formed,
+      next_row c.requires.run_before c.loop-r.r c.args.s0 c.loop-r.invariant.0 c.loop-r-test.true,
+    )
 
 pub loop-r-smaller : goal.loop-r-smaller
 loop-r-smaller c = omega (arith, c.loop-r-test.true)

@@ -1,17 +1,8 @@
 -- `blocked_factor::runs::update_panel_rows` meets its contract. The invariant of its loop: the rows before r are updated. Assumes nothing.
 use Prim.Native.Nat.{◌+◌, ◌-◌, ◌≤◌}
-use native.Mathlib.Nat.{le_refl}
-use native.Mathlib.Omega.{arith}
 use mathlib.Core.Path.{◌≡◌}
-use borrow.Author.Rules.{rules}
-use borrow.Author.Tests.{leb-true}
 use Rattle.kernels.specs.Kernels.{run_at}
 use Rattle.blocked_factor.specs.BlockColumns.{row_start, PanelUpdated}
-use Rattle.blocked_factor.specs.Runs.{lanes_of, rows_of}
-use Rattle.blocked_factor.proofs.BlockRows.{row_mono}
-use Rattle.blocked_factor.proofs.Panels.{panel_none}
-use Rattle.blocked_factor.proofs.RunTiles.{tile_shape}
-use Rattle.blocked_factor.proofs.RunPanels.{tile_rows, single_row, rows_below, rows_room, next_row, next_tile, rows_updated}
 use Rattle.blocked_factor.proofs.runs.update_panel_rows.Given as goal
 
 abbrev pub invariant-loop-r : goal.invariant-loop-r

@@ -4,7 +4,6 @@ use native.Mathlib.Omega.{arith}
 use Rattle.kernels.specs.Kernels.{run_at, lane_at}
 use Rattle.blocked_factor.specs.Runs.{lanes_of}
 use Rattle.blocked_factor.proofs.RunTiles.{tile_shape, row_reduced, row_room}
-use borrow.Author.Rules.{rules}
 use Rattle.blocked_factor.proofs.runs.update_single_row.Goals as goal
 
 pub load_tile-tile-requires : goal.load_tile-tile-requires

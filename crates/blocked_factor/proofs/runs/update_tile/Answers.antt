@@ -2,7 +2,6 @@
 use Prim.Native.Nat.{◌+◌}
 use Rattle.kernels.specs.Kernels.{run_at, lane_at}
 use Rattle.blocked_factor.proofs.RunTiles.{grid_reduced}
-use borrow.Author.Rules.{rules}
 use Rattle.blocked_factor.proofs.runs.update_tile.Goals as goal
 
 pub returns : goal.returns

@@ -1,51 +1,72 @@
 -- `blocked_factor::runs::update_whole_tile` meets its contract, by cases on the number of columns. Assumes nothing.
 use native.Mathlib.Omega.{arith}
-use Rattle.blocked_factor.proofs.RunTiles.{above, shape_wide}
-use borrow.Author.Rules.{rules}
+use Rattle.blocked_factor.proofs.RunTiles.{shape_wide}
 use Rattle.blocked_factor.proofs.runs.update_whole_tile.Goals as goal
 
 pub update_tile-requires : goal.update_tile-requires
-update_tile-requires c = let p = rw c.in-1.is at c.requires in record { rows_nonzero = omega (arith, p.0); rows_below = p.1.0; by_index = p.1.1 }
+update_tile-requires c =
+    let p = rw c.in-1.is at c.requires in
+    record { rows_nonzero = omega (arith, p.g_nonzero); rows_below = p.rows_below; by_index = p.by_index }
 
 pub update_tile-requires-in-2 : goal.update_tile-requires-in-2
-update_tile-requires-in-2 c = let p = rw c.in-2.is at c.requires in record { rows_nonzero = omega (arith, p.0); rows_below = p.1.0; by_index = p.1.1 }
+update_tile-requires-in-2 c =
+    let p = rw c.in-2.is at c.requires in
+    record { rows_nonzero = omega (arith, p.g_nonzero); rows_below = p.rows_below; by_index = p.by_index }
 
 pub update_tile-requires-in-3 : goal.update_tile-requires-in-3
-update_tile-requires-in-3 c = let p = rw c.in-3.is at c.requires in record { rows_nonzero = omega (arith, p.0); rows_below = p.1.0; by_index = p.1.1 }
+update_tile-requires-in-3 c =
+    let p = rw c.in-3.is at c.requires in
+    record { rows_nonzero = omega (arith, p.g_nonzero); rows_below = p.rows_below; by_index = p.by_index }
 
 pub update_tile-requires-in-4 : goal.update_tile-requires-in-4
-update_tile-requires-in-4 c = let p = rw c.in-4.is at c.requires in record { rows_nonzero = omega (arith, p.0); rows_below = p.1.0; by_index = p.1.1 }
+update_tile-requires-in-4 c =
+    let p = rw c.in-4.is at c.requires in
+    record { rows_nonzero = omega (arith, p.g_nonzero); rows_below = p.rows_below; by_index = p.by_index }
 
 pub update_tile-requires-in-5 : goal.update_tile-requires-in-5
-update_tile-requires-in-5 c = let p = rw c.in-5.is at c.requires in record { rows_nonzero = omega (arith, p.0); rows_below = p.1.0; by_index = p.1.1 }
+update_tile-requires-in-5 c =
+    let p = rw c.in-5.is at c.requires in
+    record { rows_nonzero = omega (arith, p.g_nonzero); rows_below = p.rows_below; by_index = p.by_index }
 
 pub update_tile-requires-in-6 : goal.update_tile-requires-in-6
-update_tile-requires-in-6 c = let p = rw c.in-6.is at c.requires in record { rows_nonzero = omega (arith, p.0); rows_below = p.1.0; by_index = p.1.1 }
+update_tile-requires-in-6 c =
+    let p = rw c.in-6.is at c.requires in
+    record { rows_nonzero = omega (arith, p.g_nonzero); rows_below = p.rows_below; by_index = p.by_index }
 
 pub update_tile-requires-in-7 : goal.update_tile-requires-in-7
-update_tile-requires-in-7 c = let p = rw c.in-7.is at c.requires in record { rows_nonzero = omega (arith, p.0); rows_below = p.1.0; by_index = p.1.1 }
+update_tile-requires-in-7 c =
+    let p = rw c.in-7.is at c.requires in
+    record { rows_nonzero = omega (arith, p.g_nonzero); rows_below = p.rows_below; by_index = p.by_index }
 
 pub update_tile-requires-in-8 : goal.update_tile-requires-in-8
-update_tile-requires-in-8 c = let p = rw c.in-8.is at c.requires in record { rows_nonzero = omega (arith, p.0); rows_below = p.1.0; by_index = p.1.1 }
+update_tile-requires-in-8 c =
+    let p = rw c.in-8.is at c.requires in
+    record { rows_nonzero = omega (arith, p.g_nonzero); rows_below = p.rows_below; by_index = p.by_index }
 
 pub update_tile-requires-in-13 : goal.update_tile-requires-in-13
-update_tile-requires-in-13 c = let p = rw c.in-13.is at c.requires in record { rows_nonzero = omega (arith, p.0); rows_below = p.1.0; by_index = p.1.1 }
+update_tile-requires-in-13 c =
+    let p = rw c.in-13.is at c.requires in
+    record { rows_nonzero = omega (arith, p.g_nonzero); rows_below = p.rows_below; by_index = p.by_index }
 
 pub update_tile-requires-in-14 : goal.update_tile-requires-in-14
-update_tile-requires-in-14 c = let p = rw c.in-14.is at c.requires in record { rows_nonzero = omega (arith, p.0); rows_below = p.1.0; by_index = p.1.1 }
+update_tile-requires-in-14 c =
+    let p = rw c.in-14.is at c.requires in
+    record { rows_nonzero = omega (arith, p.g_nonzero); rows_below = p.rows_below; by_index = p.by_index }
 
 pub update_tile-requires-in-15 : goal.update_tile-requires-in-15
-update_tile-requires-in-15 c = let p = rw c.in-15.is at c.requires in record { rows_nonzero = omega (arith, p.0); rows_below = p.1.0; by_index = p.1.1 }
+update_tile-requires-in-15 c =
+    let p = rw c.in-15.is at c.requires in
+    record { rows_nonzero = omega (arith, p.g_nonzero); rows_below = p.rows_below; by_index = p.by_index }
 
 pub update_tile-requires-in-16 : goal.update_tile-requires-in-16
-update_tile-requires-in-16 c = let p = rw c.in-16.is at c.requires in record { rows_nonzero = omega (arith, p.0); rows_below = p.1.0; by_index = p.1.1 }
+update_tile-requires-in-16 c =
+    let p = rw c.in-16.is at c.requires in
+    record { rows_nonzero = omega (arith, p.g_nonzero); rows_below = p.rows_below; by_index = p.by_index }
 
 pub update_tile-requires-in_default : goal.update_tile-requires-in_default
 update_tile-requires-in_default c =
-    let g = c.args.g in
-    let rest = c.in_default.in_default-own.rest in
-    let e = shape_wide g (above 8 g (above 7 g (above 6 g (above 5 g (above 4 g (above 3 g (above 2 g (above 1 g (omega (arith, c.requires.g_nonzero)) rest.0.0.0.0.0.0.0.0.0.0.0.1) rest.0.0.0.0.0.0.0.0.0.0.1) rest.0.0.0.0.0.0.0.0.0.1) rest.0.0.0.0.0.0.0.0.1) rest.0.0.0.0.0.0.0.1) rest.0.0.0.0.0.0.1) rest.0.0.0.0.0.1) rest.0.0.0.0.1) in
-    let p = rw (e.0, e.1) at c.requires in record { rows_nonzero = omega (arith, p.0); rows_below = p.1.0; by_index = p.1.1 }
+    let e = shape_wide c.args.g (omega (arith, c.requires.g_nonzero)) in
+    let p = rw (e.0, e.1) at c.requires in record { rows_nonzero = omega (arith, p.g_nonzero); rows_below = p.rows_below; by_index = p.by_index }
 
 pub returns-in-1 : goal.returns-in-1
 returns-in-1 c = rw c.in-1.is c.update_tile.ensures
@@ -85,7 +106,5 @@ returns-in-16 c = rw c.in-16.is c.update_tile-in-16.ensures
 
 pub returns-in_default : goal.returns-in_default
 returns-in_default c =
-    let g = c.args.g in
-    let rest = c.in_default.in_default-own.rest in
-    let e = shape_wide g (above 8 g (above 7 g (above 6 g (above 5 g (above 4 g (above 3 g (above 2 g (above 1 g (omega (arith, c.requires.g_nonzero)) rest.0.0.0.0.0.0.0.0.0.0.0.1) rest.0.0.0.0.0.0.0.0.0.0.1) rest.0.0.0.0.0.0.0.0.0.1) rest.0.0.0.0.0.0.0.0.1) rest.0.0.0.0.0.0.0.1) rest.0.0.0.0.0.0.1) rest.0.0.0.0.0.1) rest.0.0.0.0.1) in
+    let e = shape_wide c.args.g (omega (arith, c.requires.g_nonzero)) in
     rw (e.0, e.1) c.update_tile-in_default.ensures

@@ -1,8 +1,6 @@
 -- `blocked_factor::update::pack` meets its contract. Assumes nothing.
-use Prim.Native.Nat.{◌-◌, ◌≤◌}
 use native.Mathlib.Omega.{arith}
 use mathlib.Core.Path.{◌≡◌}
-use Rattle.blocked_factor.specs.BlockColumns.{Packed}
 use Rattle.blocked_factor.proofs.Panels.{packed_none, packed_next}
 use Rattle.blocked_factor.proofs.update.pack.Goals as goal
 
@@ -13,7 +11,8 @@ pub overflow_add-row : goal.overflow_add-row
 overflow_add-row c = omega (arith, c.place_in_block.ensures, c.requires.by_index c.loop-t.t c.loop-t-test.true)
 
 pub pack_lane-requires : goal.pack_lane-requires
-pack_lane-requires c = omega (arith, c.place_in_block.ensures, c.requires.count_in_bounds, c.requires.by_index c.loop-t.t c.loop-t-test.true, c.loop-t.invariant.1.size)
+pack_lane-requires c =
+    omega (arith, c.place_in_block.ensures, c.requires.count_in_bounds, c.requires.by_index c.loop-t.t c.loop-t-test.true, c.loop-t.invariant.1.size)
 
 pub loop-t-preserved : goal.loop-t-preserved
 loop-t-preserved c =

@@ -1,9 +1,6 @@
 -- `blocked_factor::update::pack` meets its contract. Assumes nothing.
 use Prim.Native.Nat.{◌-◌, ◌≤◌}
-use native.Mathlib.Omega.{arith}
-use mathlib.Core.Path.{◌≡◌}
 use Rattle.blocked_factor.specs.BlockColumns.{Packed}
-use Rattle.blocked_factor.proofs.Panels.{packed_none, packed_next}
 use Rattle.blocked_factor.proofs.update.pack.Given as goal
 
 abbrev pub invariant-loop-t : goal.invariant-loop-t

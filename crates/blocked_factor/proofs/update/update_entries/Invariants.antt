@@ -1,14 +1,10 @@
 -- `blocked_factor::update::update_entries` meets its contract. Assumes nothing.
 use Prim.Native.Nat.{◌+◌, ◌-◌, ◌≤◌}
-use native.Mathlib.Omega.{arith}
-use mathlib.Core.Path.{◌≡◌}
 use lib.ListN.{get_or}
 use lib.Ieee.{nan}
 use Rattle.calls.specs.Arithmetic.{minus_products}
 use Rattle.blocked_factor.specs.BlockColumns.{row_start}
-use Rattle.blocked_factor.proofs.Panels.{entries_next}
 use Rattle.kernels.specs.Kernels.{Filled, row_at}
-use Rattle.kernels.proofs.Parts.{filled_none}
 use Rattle.blocked_factor.proofs.update.update_entries.Given as goal
 
 abbrev pub invariant-loop-t : goal.invariant-loop-t

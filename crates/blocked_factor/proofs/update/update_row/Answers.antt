@@ -3,7 +3,6 @@ use native.Mathlib.Omega.{arith}
 use mathlib.Core.Path.{◌≡◌, sym, subst}
 use lib.Dec.{T}
 use Rattle.blocked_factor.proofs.Panels.{filled_packed}
-use borrow.Author.Rules.{rules}
 use Rattle.blocked_factor.proofs.update.update_row.Goals as goal
 
 pub update16-requires : goal.update16-requires

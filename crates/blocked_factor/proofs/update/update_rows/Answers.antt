@@ -1,11 +1,8 @@
 -- `blocked_factor::update::update_rows` meets its contract. The invariant of its loop: the rows before r are updated. Assumes nothing.
-use Prim.Native.Nat.{ℕ, ◌+◌, ◌-◌, ◌≤◌}
+use Prim.Native.Nat.{ℕ, ◌+◌}
 use native.Mathlib.Nat.{le_refl}
 use native.Mathlib.Omega.{arith}
 use mathlib.Core.Path.{◌≡◌, ap}
-use borrow.Author.Rules.{rules}
-use Rattle.kernels.specs.Kernels.{row_at}
-use Rattle.blocked_factor.specs.BlockColumns.{row_start, PanelUpdated}
 use Rattle.blocked_factor.proofs.Panels.{first_fits, next_fits, panel_none, panel_next, row_ready}
 use Rattle.blocked_factor.proofs.update.update_rows.Goals as goal
 
@@ -30,19 +27,31 @@ pub overflow_sub-r : goal.overflow_sub-r
 overflow_sub-r c = omega (arith, c.loop-r.invariant.0)
 
 pub overflow_add-x-in-loop-r : goal.overflow_add-x-in-loop-r
-overflow_add-x-in-loop-r c = omega (arith, c.loop-r.invariant.2, c.requires.own_columns.order, c.requires.own_columns.tall, c.requires.own_columns.wide, c.well_formed, next_fits c.requires.own_columns c.loop-r.r c.loop-r.x c.loop-r-test.true c.loop-r.invariant.2)
+overflow_add-x-in-loop-r c =
+    omega (
+      arith,
+      c.loop-r.invariant.2,
+      c.requires.own_columns.order,
+      c.requires.own_columns.tall,
+      c.requires.own_columns.wide,
+      c.well_formed,
+      next_fits c.requires.own_columns c.loop-r.r c.loop-r.x c.loop-r-test.true c.loop-r.invariant.2,
+    )
 
 pub update_row-requires : goal.update_row-requires
 update_row-requires c =
-    rw c.loop-r.invariant.2
-    (row_ready c.requires.own_columns c.loop-r.r c.loop-r.invariant.0 c.loop-r-test.true c.loop-r.invariant.3 c.args.panel.now c.args.packed _ c.requires.g_bound.0 c.requires.g_bound.1
-    c.least-len.ensures)
+    let ready =
+    row_ready c.requires.own_columns c.loop-r.r c.loop-r.invariant.0 c.loop-r-test.true c.loop-r.invariant.3 c.args.panel.now c.args.packed _ c.requires.g_bound.0 c.requires.g_bound.1
+    c.least-len.ensures
+    in
+    rw c.loop-r.invariant.2 (record { count_bound = ready.0; by_index = ready.1.0; count_in_bounds = ready.1.1 })
 
 pub overflow_add-r-in-loop-r : goal.overflow_add-r-in-loop-r
 overflow_add-r-in-loop-r c = omega (arith, c.loop-r-test.true, c.requires.own_columns.order)
 
 pub overflow_add-x-in-loop-r-2 : goal.overflow_add-x-in-loop-r-2
-overflow_add-x-in-loop-r-2 c = omega (arith, c.least-x.ensures, next_fits c.requires.own_columns c.loop-r.r c.loop-r.x c.loop-r-test.true c.loop-r.invariant.2, c.well_formed)
+overflow_add-x-in-loop-r-2 c =
+    omega (arith, c.least-x.ensures, next_fits c.requires.own_columns c.loop-r.r c.loop-r.x c.loop-r-test.true c.loop-r.invariant.2, c.well_formed)
 
 pub loop-r-smaller : goal.loop-r-smaller
 loop-r-smaller c = omega (arith, c.loop-r-test.true)

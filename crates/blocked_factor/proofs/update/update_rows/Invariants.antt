@@ -1,12 +1,8 @@
 -- `blocked_factor::update::update_rows` meets its contract. The invariant of its loop: the rows before r are updated. Assumes nothing.
-use Prim.Native.Nat.{ℕ, ◌+◌, ◌-◌, ◌≤◌}
-use native.Mathlib.Nat.{le_refl}
-use native.Mathlib.Omega.{arith}
-use mathlib.Core.Path.{◌≡◌, ap}
-use borrow.Author.Rules.{rules}
+use Prim.Native.Nat.{◌+◌, ◌-◌, ◌≤◌}
+use mathlib.Core.Path.{◌≡◌}
 use Rattle.kernels.specs.Kernels.{row_at}
 use Rattle.blocked_factor.specs.BlockColumns.{row_start, PanelUpdated}
-use Rattle.blocked_factor.proofs.Panels.{first_fits, next_fits, panel_none, panel_next, row_ready}
 use Rattle.blocked_factor.proofs.update.update_rows.Given as goal
 
 abbrev pub invariant-loop-r : goal.invariant-loop-r
