@@ -1,9 +1,10 @@
-// Standard input, read to its end or until a buffer is full.
+// A reader, as standard input, read to its end or until a buffer is full.
 #![tactic(auto)]
 
-ghost use Rattle.std.specs.Prelude.{◌≤◌, length};
+ghost use Rattle.std.specs.Prelude.{◌<◌, ◌≤◌, take, length, IsFalse};
+ghost use Rattle.std.specs.Io.KnownBytes.{Consumes, IsAtEnd};
 
-use libc::STDIN_FILENO;
+use std::io::Read;
 
 // How many bytes were read, and whether a read failed.
 #[derive(Clone, Copy)]
@@ -12,35 +13,29 @@ pub struct Input {
     pub count: usize,
 }
 
-fn read_some(buffer: &mut [u8]) -> Input
-    ensures { result.count ≤ length buffer.old }
-{
-    let got = libc::read(STDIN_FILENO, buffer);
-    Input {
-        failed: got < 0,
-        count: io::count(got, buffer),
-    }
-}
-
-pub fn read_input(buffer: &mut [u8]) -> Input
-    ensures { result.count ≤ length buffer.old }
+// A read that a signal interrupts is a failed one.
+pub fn read_input<R: Read>(reader: &mut R, buffer: &mut [u8]) -> Input
+    ensures in_bounds { result.count ≤ length buffer.old }
+    ensures bytes { Consumes (R.remaining reader.old) (R.remaining reader.new) (take result.count buffer.new) }
+    ensures end { IsFalse result.failed → result.count < length buffer.old → IsAtEnd (R.remaining reader.new) }
 {
     let mut at = 0;
     while at < buffer.len() {
-        let got = read_some(&mut buffer[at..]);
-        if got.failed {
-            return Input {
-                failed: true,
-                count: at,
-            };
+        match reader.read(&mut buffer[at..]) {
+            Ok(0) => {
+                return Input {
+                    failed: false,
+                    count: at,
+                };
+            }
+            Ok(n) => at += n,
+            Err(_) => {
+                return Input {
+                    failed: true,
+                    count: at,
+                };
+            }
         }
-        if got.count == 0 {
-            return Input {
-                failed: false,
-                count: at,
-            };
-        }
-        at += got.count;
     }
     Input {
         failed: false,

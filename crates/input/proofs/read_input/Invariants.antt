@@ -1,12 +1,11 @@
--- `input::read_input` meets its contract. The invariant of its loop: no more was read than the buffer holds. The measure is what is left of it. Assumes nothing.
-use Prim.Native.Nat.{◌≤◌, ◌-◌}
-use mathlib.Core.Path.{◌≡◌}
-use borrow.Author.Rules.{rules}
-use lib.ListN.{length}
+-- No more was read than the buffer holds, and what was read is what the reader lost. The measure is what is left of the buffer.
+use Rattle.std.proofs.Common.{length, ◌-◌, ◌≤◌, take}
+use Rattle.std.specs.Io.KnownBytes.{Consumes}
 use Rattle.input.proofs.read_input.Given as goal
 
 abbrev pub invariant-loop-at : goal.invariant-loop-at
-invariant-loop-at l = (l.at ≤ length l.buffer) × (length l.buffer ≡ length l.initial.buffer)
+invariant-loop-at g l =
+    (l.at ≤ length l.buffer) × Consumes (g.R.Read.remaining l.initial.reader) (g.R.Read.remaining l.reader) (take l.at l.buffer)
 
 abbrev pub decreases-loop-at : goal.decreases-loop-at
-decreases-loop-at l = length l.buffer - l.at
+decreases-loop-at g l = length l.buffer - l.at
