@@ -5,37 +5,28 @@
 
 use input::read_input;
 use job_format::{MAX_JOB, Rewritten, rewrite};
-use libc::{STDERR_FILENO, STDOUT_FILENO};
+use output::{tell, write_output};
+use std::process::ExitCode;
 
-fn tell(code: usize, place: usize) {
-    io::write_all(STDERR_FILENO, b"rewrite_job: code ");
-    io::print_decimal(STDERR_FILENO, code as u64);
-    io::write_all(STDERR_FILENO, b", place ");
-    io::print_decimal(STDERR_FILENO, place as u64);
-    io::write_all(STDERR_FILENO, b"\n");
+fn tell_fault(rt: &impl Eprint, code: usize, place: usize) -> ExitCode {
+    tell(rt, format_args!("rewrite_job: code {code}, place {place}"))
 }
 
-fn write_job(job: &[u8]) {
-    if !io::write_all(STDOUT_FILENO, job) {
-        io::write_all(
-            STDERR_FILENO,
-            b"rewrite_job: the job could not be written\n",
-        );
-    }
+fn write_job(rt: &(impl Print + Eprint), job: &[u8]) -> ExitCode {
+    write_output(rt, job, "rewrite_job: the job could not be written")
 }
 
-fn main() {
+fn main(rt: HostRuntime) -> ExitCode {
     // One byte more than the longest job has, so that an extra byte is seen.
     let mut file = [0u8; MAX_JOB + 1];
     let mut out = [0u8; MAX_JOB];
-    let input = read_input(&mut file);
+    let input = read_input(&mut rt.stdin(), &mut file);
     let size = input.count;
     if input.failed {
-        io::write_all(STDERR_FILENO, b"rewrite_job: the job could not be read\n");
-        return;
+        return tell(&rt, "rewrite_job: the job could not be read");
     }
     match rewrite(&file[..size], &mut out) {
-        Rewritten::Fault(fault) => tell(fault.code, fault.place),
-        Rewritten::Job(end) => write_job(&out[..end]),
+        Rewritten::Fault(fault) => tell_fault(&rt, fault.code, fault.place),
+        Rewritten::Job(end) => write_job(&rt, &out[..end]),
     }
 }

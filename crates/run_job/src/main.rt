@@ -5,23 +5,22 @@
 use input::read_input;
 use job::LISTING;
 use job_format::MAX_JOB;
-use libc::{STDERR_FILENO, STDOUT_FILENO};
+use output::{tell, write_output};
+use std::process::ExitCode;
 
-fn main() {
+fn main(rt: HostRuntime) -> ExitCode {
     // One byte more than the longest job has, so that an extra byte is seen.
     let mut file = [0u8; MAX_JOB + 1];
     let mut out = [0u8; LISTING];
-    let input = read_input(&mut file);
+    let input = read_input(&mut rt.stdin(), &mut file);
     let size = input.count;
     if input.failed {
-        io::write_all(STDERR_FILENO, b"run_job: the job could not be read\n");
-        return;
+        return tell(&rt, "run_job: the job could not be read");
     }
     let end = job::run(&file[..size], &mut out);
-    if !io::write_all(STDOUT_FILENO, &out[..end]) {
-        io::write_all(
-            STDERR_FILENO,
-            b"run_job: the listing could not be written\n",
-        );
-    }
+    write_output(
+        &rt,
+        &out[..end],
+        "run_job: the listing could not be written",
+    )
 }

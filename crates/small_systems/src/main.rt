@@ -3,15 +3,15 @@
 #![tactic(auto)]
 
 use acceptance::LISTING;
-use libc::{STDERR_FILENO, STDOUT_FILENO};
+use output::write_output;
+use std::process::ExitCode;
 
-fn main() {
+fn main(rt: HostRuntime) -> ExitCode {
     let mut out = [0u8; LISTING];
     let end = acceptance::put_listing(&mut out);
-    if !io::write_all(STDOUT_FILENO, &out[..end]) {
-        io::write_all(
-            STDERR_FILENO,
-            b"small_systems: the counts could not be written\n",
-        );
-    }
+    write_output(
+        &rt,
+        &out[..end],
+        "small_systems: the counts could not be written",
+    )
 }
