@@ -63,16 +63,14 @@ fn kind_number(kind: Kind) -> u64
     }
 }
 
-// `kind_of` and `kind_of_bits` for the tests in C.
-#[unsafe(no_mangle)]
-pub extern "C" fn metsovary_kind(x: f64) -> u64
+// `kind_of` and `kind_of_bits` for crate binary64_c, which exports them to the tests in C.
+pub fn metsovary_kind(x: f64) -> u64
     ensures { result ≡ kind_number (kind x) }
 {
     kind_number(kind_of(x))
 }
 
-#[unsafe(no_mangle)]
-pub extern "C" fn metsovary_kind_of_bits(bits: u64) -> u64
+pub fn metsovary_kind_of_bits(bits: u64) -> u64
     ensures { result ≡ kind_number (kind_of_bits bits) }
 {
     kind_number(kind_of_bits(bits))

@@ -9,7 +9,7 @@ ghost use Rattle.binary64.specs.Kinds.{finite};
 ghost use Rattle.binary64.specs.Root.{root, exact};
 ghost use Rattle.binary64.specs.Judged.{judged};
 
-pub use kinds::{Kind, kind_of, kind_of_bits};
+pub use kinds::{Kind, kind_of, kind_of_bits, metsovary_kind, metsovary_kind_of_bits};
 
 // A root, and whether its square is the argument exactly.
 #[derive(Clone, Copy)]
@@ -66,16 +66,14 @@ pub fn square_root(x: f64) -> SquareRoot
     }
 }
 
-// `square_root` for other languages: its value, and its exactness.
-#[unsafe(no_mangle)]
-pub extern "C" fn metsovary_square_root(x: f64) -> f64
+// `square_root` for crate binary64_c, which exports it to other languages: its value, and its exactness.
+pub fn metsovary_square_root(x: f64) -> f64
     ensures { result ≡ root x }
 {
     square_root(x).value
 }
 
-#[unsafe(no_mangle)]
-pub extern "C" fn metsovary_root_is_exact(x: f64) -> bool
+pub fn metsovary_root_is_exact(x: f64) -> bool
     ensures { result ≡ exact x }
 {
     square_root(x).exact

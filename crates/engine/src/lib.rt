@@ -1,4 +1,4 @@
-// The engine: the eleven calls for other languages, and both pipelines with the promise that they agree.
+// The engine: the eleven calls, which crate engine_c exports to other languages, and both pipelines with the promise that they agree.
 #![tactic(auto)]
 
 ghost use Rattle.calls.specs.declared.Layout.TheVariants.{Packed, Blocked};
@@ -18,52 +18,31 @@ use calls::CallResult;
 pub use pipelines::{BothResults, PipelineResult, blocked_pipeline, plain_pipeline, run_both};
 use shape::Shape;
 
-#[unsafe(no_mangle)]
-pub extern "C" fn metsovary_packed_to_blocked(
-    shape: Shape,
-    matrix: &mut [f64],
-    work: &mut [f64],
-) -> CallResult
+pub fn metsovary_packed_to_blocked(shape: Shape, matrix: &mut [f64], work: &mut [f64]) -> CallResult
     ensures { DoneAs (packed_to_blocked shape matrix.old work.old) result matrix.new work.new }
 {
     rearrange::packed_to_blocked(shape, matrix, work)
 }
 
-#[unsafe(no_mangle)]
-pub extern "C" fn metsovary_blocked_to_packed(
-    shape: Shape,
-    matrix: &mut [f64],
-    work: &mut [f64],
-) -> CallResult
+pub fn metsovary_blocked_to_packed(shape: Shape, matrix: &mut [f64], work: &mut [f64]) -> CallResult
     ensures { DoneAs (blocked_to_packed shape matrix.old work.old) result matrix.new work.new }
 {
     rearrange::blocked_to_packed(shape, matrix, work)
 }
 
-#[unsafe(no_mangle)]
-pub extern "C" fn metsovary_factor_plain(
-    shape: Shape,
-    matrix: &mut [f64],
-    work: &mut [f64],
-) -> CallResult
+pub fn metsovary_factor_plain(shape: Shape, matrix: &mut [f64], work: &mut [f64]) -> CallResult
     ensures { DoneAs (factorize Packed shape matrix.old work.old) result matrix.new work.new }
 {
     plain_factor::factor(shape, matrix, work)
 }
 
-#[unsafe(no_mangle)]
-pub extern "C" fn metsovary_factor_blocked(
-    shape: Shape,
-    matrix: &mut [f64],
-    work: &mut [f64],
-) -> CallResult
+pub fn metsovary_factor_blocked(shape: Shape, matrix: &mut [f64], work: &mut [f64]) -> CallResult
     ensures { DoneAs (factorize Blocked shape matrix.old work.old) result matrix.new work.new }
 {
     blocked_factor::factor(shape, matrix, work)
 }
 
-#[unsafe(no_mangle)]
-pub extern "C" fn metsovary_solve_plain(
+pub fn metsovary_solve_plain(
     shape: Shape,
     m: usize,
     matrix: &[f64],
@@ -75,8 +54,7 @@ pub extern "C" fn metsovary_solve_plain(
     solve::solve_plain(shape, m, matrix, rhs, work)
 }
 
-#[unsafe(no_mangle)]
-pub extern "C" fn metsovary_solve_blocked(
+pub fn metsovary_solve_blocked(
     shape: Shape,
     m: usize,
     matrix: &[f64],
@@ -88,8 +66,7 @@ pub extern "C" fn metsovary_solve_blocked(
     solve::solve_blocked(shape, m, matrix, rhs, work)
 }
 
-#[unsafe(no_mangle)]
-pub extern "C" fn metsovary_variance_plain(
+pub fn metsovary_variance_plain(
     shape: Shape,
     k: usize,
     matrix: &[f64],
@@ -100,8 +77,7 @@ pub extern "C" fn metsovary_variance_plain(
     variance::variance_plain(shape, k, matrix, work)
 }
 
-#[unsafe(no_mangle)]
-pub extern "C" fn metsovary_variance_blocked(
+pub fn metsovary_variance_blocked(
     shape: Shape,
     k: usize,
     matrix: &[f64],
@@ -112,8 +88,7 @@ pub extern "C" fn metsovary_variance_blocked(
     variance::variance_blocked(shape, k, matrix, work)
 }
 
-#[unsafe(no_mangle)]
-pub extern "C" fn metsovary_packed_to_rfp(
+pub fn metsovary_packed_to_rfp(
     shape: Shape,
     form: usize,
     source: &[f64],
@@ -124,8 +99,7 @@ pub extern "C" fn metsovary_packed_to_rfp(
     convert::packed_to_rfp(shape, form, source, target)
 }
 
-#[unsafe(no_mangle)]
-pub extern "C" fn metsovary_rfp_to_packed(
+pub fn metsovary_rfp_to_packed(
     shape: Shape,
     form: usize,
     source: &[f64],
@@ -136,8 +110,7 @@ pub extern "C" fn metsovary_rfp_to_packed(
     convert::rfp_to_packed(shape, form, source, target)
 }
 
-#[unsafe(no_mangle)]
-pub extern "C" fn metsovary_strike(shape: Shape, list: &[usize], matrix: &mut [f64]) -> CallResult
+pub fn metsovary_strike(shape: Shape, list: &[usize], matrix: &mut [f64]) -> CallResult
     ensures { StruckAs (Strikes.strike shape list.now matrix.old) result matrix.new }
 {
     strike::strike(shape, list, matrix)
