@@ -1,5 +1,5 @@
 /* Factors a system of order 3 and hands the factor to a partner's library in LAPACK's rectangular full packed format. Build from the repository's top:
- *   rt staticlib engine
+ *   tools/build archive engine
  *   gcc -std=c11 -o target/convert examples/convert.c target/staticlib/libengine.a && target/convert
  */
 #include "../include/metsovary.h"

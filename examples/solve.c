@@ -1,5 +1,5 @@
 /* Factors a system of order 3 and solves it for one right-hand side, packed and by blocks. Build from the repository's top:
- *   rt staticlib engine
+ *   tools/build archive engine
  *   gcc -std=c11 -o target/solve examples/solve.c target/staticlib/libengine.a && target/solve
  */
 #include "../include/metsovary.h"

@@ -1,5 +1,5 @@
 /* Strikes an unknown from a system of order 4, and factors and solves what is left. Build from the repository's top:
- *   rt staticlib engine
+ *   tools/build archive engine
  *   gcc -std=c11 -o target/strike examples/strike.c target/staticlib/libengine.a && target/strike
  */
 #include "../include/metsovary.h"

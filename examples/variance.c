@@ -1,5 +1,5 @@
 /* Factors a system of order 3 and prints how uncertain each unknown is, from the packed factor and from the same by blocks. Build from the repository's top:
- *   rt staticlib engine
+ *   tools/build archive engine
  *   gcc -std=c11 -o target/variance examples/variance.c target/staticlib/libengine.a -lm && target/variance
  */
 #include "../include/metsovary.h"

@@ -1,6 +1,6 @@
 /* Metsovary: Cholesky factor and solution of symmetric positive definite systems of order up to 4,000 in binary64, and the variance of one unknown, packed or
  * by blocks, bit for bit the same on both ways; unknowns struck from a packed matrix; and LAPACK's rectangular full packed format (RFP), to and from. Link
- * libengine.a (rt staticlib engine).
+ * libengine.a (tools/build archive engine).
  *
  * A call examines its orders, lengths, states, lists and values itself, refuses by the first rule that holds, in the order of the codes below, and touches only
  * the memory that it is lent. The caller owes: pointers to as many values as the length says (any pointer where that is 0), memories that do not overlap, the
