@@ -1,7 +1,6 @@
 -- `engine::blocked_pipeline` meets its contract: each call did what its definition says. Assumes nothing.
 use native.Mathlib.Omega.{arith}
 use Rattle.engine.proofs.Composition.{starts, blocked_not_moved, blocked_refused, blocked_accepted}
-use borrow.Author.Rules.{rules}
 use Rattle.engine.proofs.pipelines.blocked_pipeline.Goals as goal
 
 pub returns-then-there-ne0 : goal.returns-then-there-ne0

@@ -1,6 +1,5 @@
 -- `engine::plain_pipeline` meets its contract: each call did what its definition says. Assumes nothing.
 use Rattle.engine.proofs.Composition.{starts, plain_refused, plain_accepted}
-use borrow.Author.Rules.{rules}
 use Rattle.engine.proofs.pipelines.plain_pipeline.Goals as goal
 
 pub returns-then-factor-ne0 : goal.returns-then-factor-ne0

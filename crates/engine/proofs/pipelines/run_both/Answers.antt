@@ -3,7 +3,6 @@ use lib.Ieee.{nan, binary64, fits}
 use Rattle.calls.proofs.Sequences.{all_of}
 use Rattle.engine.specs.Promises.{memory}
 use Rattle.engine.proofs.Composition.{both_ran}
-use borrow.Author.Rules.{rules}
 use Rattle.engine.proofs.pipelines.run_both.Goals as goal
 
 pub returns : goal.returns
