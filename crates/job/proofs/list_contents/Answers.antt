@@ -23,4 +23,4 @@ pub returns-in-Next : goal.returns-in-Next
 returns-in-Next c =
     let a = c.args in
     let job : Contents = record { sizes = a.sizes; matrix = c.read_contents.new.matrix; rhs = c.read_contents.new.rhs } in
-    as_text (ap (listed a.sizes) (sym (ap (parsed_as job) c.enum_told-1.given.1) ∙ c.read_contents.ensures)) c.list_read.ensures
+    as_text (ap (listed a.sizes) (sym (ap (parsed_as job) c.in-Next.is) ∙ c.read_contents.ensures)) c.list_read.ensures

@@ -1,45 +1,50 @@
 -- `job::list_values` meets its contract. The memory has room for every job within the bounds. Assumes nothing.
-use Prim.Native.Nat.{◌*◌, ◌≤◌}
+use Prim.Native.Nat.{ℕ, ◌*◌, ◌≤◌}
 use native.Mathlib.Omega.{arith}
-use mathlib.Core.Path.{sym, ap, ◌∙◌}
+use mathlib.Core.Path.{◌≡◌, refl, sym, ap, ◌∙◌}
 use Rattle.shape.specs.Places.{triangle}
+use Rattle.job_format.specs.declared.Sizes.{Sizes}
+use Rattle.job_format.specs.Format.{InBounds}
 use Rattle.job_format.proofs.Formats.{triangle_small, values_small}
 use Rattle.text.proofs.Lists.{length_zeros}
 use borrow.Author.Rules.{rules}
 use Rattle.job.proofs.list_values.Goals as goal
 
 -- the arrays have room for the values of the matrix and of the right-hand sides
-entries_fit : (c : goal.After-triangle-entries) → c.triangle-entries.result ≤ 2080
-entries_fit c =
-    omega (arith, ap triangle c.new.ensures.0, triangle_small c.args.sizes.order c.requires.in_bounds.order)
+entries_fit : (sizes : Sizes) → InBounds sizes → (size : ℕ) → size ≡ triangle sizes.order → size ≤ 2080
+entries_fit sizes within size e = omega (arith, triangle_small sizes.order within.order)
 
-values_fit : (c : goal.Start) → c.args.sizes.order * c.args.sizes.count ≤ 1024
-values_fit c = values_small c.args.sizes.order c.args.sizes.count c.requires.in_bounds.order c.requires.in_bounds.count
+values_fit : (sizes : Sizes) → InBounds sizes → (size : ℕ) → size ≡ sizes.order * sizes.count → size ≤ 1024
+values_fit sizes within size e = omega (arith, values_small sizes.order sizes.count within.order within.count)
 
 pub overflow_mul-values : goal.overflow_mul-values
-overflow_mul-values c = omega (arith, values_fit c.before.before.before.before.before)
+overflow_mul-values c = omega (arith, values_fit c.args.sizes c.requires.in_bounds (c.args.sizes.order * c.args.sizes.count) refl)
 
 pub slice_bounds-matrix-end : goal.slice_bounds-matrix-end
-slice_bounds-matrix-end c = entries_fit c.before
+slice_bounds-matrix-end c = entries_fit c.args.sizes c.requires.in_bounds c.triangle-entries.result (c.triangle-entries.ensures ∙ ap triangle c.new.ensures.0)
 
 pub slice_bounds-list_contents-end : goal.slice_bounds-list_contents-end
-slice_bounds-list_contents-end c = length_zeros 2080 c.triangle-entries.result 0 (entries_fit c.before.before)
+slice_bounds-list_contents-end c =
+    length_zeros 2080 c.triangle-entries.result 0
+    (entries_fit c.args.sizes c.requires.in_bounds c.triangle-entries.result (c.triangle-entries.ensures ∙ ap triangle c.new.ensures.0))
 
 pub slice_bounds-rhs-end : goal.slice_bounds-rhs-end
-slice_bounds-rhs-end c = values_fit c.before.before.before.before.before.before
+slice_bounds-rhs-end c = values_fit c.args.sizes c.requires.in_bounds (c.args.sizes.order * c.args.sizes.count) refl
 
 pub slice_bounds-list_contents-end-2 : goal.slice_bounds-list_contents-end-2
 slice_bounds-list_contents-end-2 c =
-    let start = c.before.before.before.before.before.before.before in
-    length_zeros 1024 (c.args.sizes.order * c.args.sizes.count) 0 (values_fit start)
+    length_zeros 1024 (c.args.sizes.order * c.args.sizes.count) 0
+    (values_fit c.args.sizes c.requires.in_bounds (c.args.sizes.order * c.args.sizes.count) refl)
 
 pub list_contents-requires : goal.list_contents-requires
 list_contents-requires c =
-    let start = c.before.before.before.before.before.before.before.before in
-    let entries = c.before.before.before.before in record {
+    let entries = c.triangle-entries.ensures ∙ ap triangle c.new.ensures.0 in
+    let fit = entries_fit c.args.sizes c.requires.in_bounds c.triangle-entries.result entries in record {
       in_bounds = c.requires.in_bounds;
-      matrix_len = sym (length_zeros 2080 c.triangle-entries.result 0 (entries_fit entries))
-          ∙ c.triangle-entries.ensures ∙ ap triangle c.new.ensures.0;
-      rhs_len = sym (length_zeros 1024 (c.args.sizes.order * c.args.sizes.count) 0 (values_fit start));
+      matrix_len = sym (length_zeros 2080 c.triangle-entries.result 0 fit) ∙ entries;
+      rhs_len =
+          sym
+          (length_zeros 1024 (c.args.sizes.order * c.args.sizes.count) 0
+          (values_fit c.args.sizes c.requires.in_bounds (c.args.sizes.order * c.args.sizes.count) refl));
       max_listing_in_bounds = c.requires.max_listing_in_bounds;
     }

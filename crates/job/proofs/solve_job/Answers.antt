@@ -16,21 +16,17 @@ returns-then-checked-ne0 c = refused_by_7 _ _ _ _ c.if-checked-ne0.true c.check_
 pub returns-then-checked-ne0-2 : goal.returns-then-checked-ne0-2
 returns-then-checked-ne0-2 c = refused_by_8 _ _ _ _ c.if-checked-ne0-2.true c.check_finite-checked.result c.check_finite-checked.ensures c.if-checked-ne0.false c.check_finite-checked-2.ensures
 
--- the needed work memory, for which the array has room
-work_needed : (c : goal.After-block_work-needed) → let s = c.args.sizes in c.block_work-needed.result ≡ block_work s.order s.block
-work_needed c = rw (← c.new.ensures.0, ← c.new.ensures.1) c.block_work-needed.ensures
-
-work_fits : (c : goal.After-block_work-needed) → c.block_work-needed.result ≤ 4096
-work_fits c = omega (arith, work_small c.new.result.order c.new.result.block (omega arith))
-
+-- the array has room for the needed work memory
 pub slice_bounds-work-end : goal.slice_bounds-work-end
-slice_bounds-work-end c = work_fits c.before.before
+slice_bounds-work-end c = omega (arith, work_small c.new.result.order c.new.result.block (omega arith))
 
 pub slice_bounds-blocked_pipeline-end : goal.slice_bounds-blocked_pipeline-end
-slice_bounds-blocked_pipeline-end c = length_zeros 4096 c.block_work-needed.result (of_bits binary64 0) (work_fits c.before.before.before)
+slice_bounds-blocked_pipeline-end c =
+    length_zeros 4096 c.block_work-needed.result (of_bits binary64 0) (omega (arith, work_small c.new.result.order c.new.result.block (omega arith)))
 
 pub returns : goal.returns
 returns c =
+    let needed : c.block_work-needed.result ≡ block_work c.args.sizes.order c.args.sizes.block = rw (← c.new.ensures.0, ← c.new.ensures.1) c.block_work-needed.ensures in
     rw c.verdict_of.ensures
     (job_ran _ c.check_finite-checked.result c.check_finite-checked-2.result
     (record {
@@ -41,4 +37,5 @@ returns c =
       rhs = c.blocked_pipeline-ended.new.rhs;
       work = c.blocked_pipeline-ended.new.work;
     })
-    c.check_finite-checked.ensures c.if-checked-ne0.false c.check_finite-checked-2.ensures c.if-checked-ne0-2.false (ended_as _ c.block_work-needed.result _ (work_needed c.before.before.before.before.before.before.before.before.before.before.before) (work_fits c.before.before.before.before.before.before.before.before.before.before.before) c.blocked_pipeline-ended.ensures))
+    c.check_finite-checked.ensures c.if-checked-ne0.false c.check_finite-checked-2.ensures c.if-checked-ne0-2.false (ended_as _ c.block_work-needed.result _ needed
+    (omega (arith, work_small c.new.result.order c.new.result.block (omega arith))) c.blocked_pipeline-ended.ensures))
