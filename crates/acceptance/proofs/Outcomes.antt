@@ -9,7 +9,7 @@ use mathlib.Core.List.{List, [], ◌∷◌}
 use borrow.Author.Tests.{eqb-true}
 use lib.Dec.{T, eqb}
 use lib.ListN.{length, get_or, replicate}
-use lib.Ieee.{Float, nan, binary64, up, fits}
+use lib.Ieee.{Float, nan, binary64, fits}
 use lib.Ieee.Bits.{is_true}
 use Rattle.binary64.specs.Kinds.{finite, positive, zero64}
 use Rattle.binary64.proofs.RootLaws.{root_positive}

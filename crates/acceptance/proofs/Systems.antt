@@ -15,7 +15,7 @@ use lib.Seq.{take_all, take-suc, drop-length, append_snoc, get_or_at, get_or-tak
 use lib.Ieee.{Float, binary64, sub, of_int, in_float, of_bits}
 use Rattle.shape.specs.Places.{triangle}
 use Rattle.text.proofs.Lists.{drop_set}
-use Rattle.acceptance.specs.Systems.{whole_of, wholes, entries, values, total, Small, EachOnce, OnlySmall, Less, Precedes, InOrder}
+use Rattle.acceptance.specs.Systems.{whole_of, wholes, values, total, Small, EachOnce, OnlySmall, Less, Precedes, InOrder}
 
 -- ---- digits
 

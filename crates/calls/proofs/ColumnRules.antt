@@ -1,5 +1,5 @@
 -- Laws of a column's rules, 10, 16 and 11: what an accepted column says of its pivot and its entries below, and what a refused one says. All go by one
--- table, `outcome`: a rule that is added, or another order, changes that. No other file looks into the rules, but for `rules-present` of WeakFirst, which writes
+-- table, `outcome`: a rule that is added, or another order, changes that. No other file looks into the rules, but for `rules_present` of WeakFirst, which writes
 -- their order out. Assumes nothing.
 use Prim.Native.Nat.{ℕ}
 use native.Mathlib.Omega.{arith}

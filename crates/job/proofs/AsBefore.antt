@@ -1,6 +1,6 @@
 -- What the present reader accepts has the listing that it had, a listing that changed is one of code 18, and a rewritten job has the listing that its input had. The
 -- former definitions stand on the other side of each equation. Assumes nothing.
-use Prim.Native.Nat.{ℕ, zero, suc, ◌+◌, ◌*◌}
+use Prim.Native.Nat.{ℕ, zero, suc, ◌*◌}
 use native.Mathlib.Omega.{arith}
 use mathlib.Core.Path.{◌≡◌, refl, sym, ap, ◌∙◌}
 use mathlib.Core.Logic.{◌⊎◌, inl, inr}

@@ -6,9 +6,7 @@ use Rattle.job_format.specs.declared.Sizes.{Sizes}
 use Rattle.job_format.specs.declared.Zeros.{Zeros}
 use Rattle.job_format.specs.declared.Zeros.TheVariants.{Kept}
 use Rattle.job_format.specs.declared.Head.{Head}
-use Rattle.job_format.specs.declared.Head.TheVariants as Head
 use Rattle.job_format.specs.declared.Step.{Step}
-use Rattle.job_format.specs.declared.Step.TheVariants as Step
 use Rattle.job_format.specs.Reading.{Parsed, fault, found, and_then, require, malformed, bounded, values}
 
 abbrev pub max_job_order : ℕ

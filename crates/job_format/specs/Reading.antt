@@ -4,7 +4,6 @@ use Rattle.job_format.specs.declared.Fault.{Fault}
 use Rattle.job_format.specs.declared.Zeros.{Zeros}
 use Rattle.job_format.specs.declared.Zeros.TheVariants.{Kept, Needless}
 use Rattle.job_format.specs.declared.Field.{Field}
-use Rattle.job_format.specs.declared.Field.TheVariants as Field
 
 pub data Parsed (A : Type 0) : Type 0 where
   fault : Fault → Parsed A

@@ -8,7 +8,6 @@ use Rattle.job_format.specs.declared.Sizes.{Sizes}
 use Rattle.job_format.specs.declared.Zeros.{Zeros}
 use Rattle.job_format.specs.declared.Zeros.TheVariants.{Kept, Needless}
 use Rattle.job_format.specs.declared.Rewritten.{Rewritten}
-use Rattle.job_format.specs.declared.Rewritten.TheVariants as Rewritten
 use Rattle.job_format.specs.Reading.{Parsed, fault, found, and_then, needless, needless_zero}
 use Rattle.job_format.specs.Format.{Contents, InBounds, read_job}
 use Rattle.text.specs.Writing.{overwrite}

@@ -1,6 +1,5 @@
 -- What tables of examples are written with: lists of numbers compared, and a string as its bytes. Assumes nothing.
 use Prim.Native.Nat.{ℕ}
-use Prim.Native.String as String
 use Prim.Native.String.{String}
 use Prim.Native.Char.{code}
 use mathlib.Core.Bool.{Bool, true, false, ◌&&◌}

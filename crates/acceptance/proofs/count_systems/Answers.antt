@@ -1,5 +1,4 @@
 -- `acceptance::count_systems` meets its contract. The loop's invariant: the first t systems are counted. Assumes nothing.
-use Prim.Native.Nat.{◌-◌, ◌≤◌}
 use native.Mathlib.Omega.{arith}
 use mathlib.Core.Path.{◌≡◌, ap, ◌∙◌}
 use Rattle.acceptance.specs.Promises.{counts_to}

@@ -1,9 +1,7 @@
 -- `acceptance::count_systems` meets its contract. The loop's invariant: the first t systems are counted. Assumes nothing.
 use Prim.Native.Nat.{◌-◌, ◌≤◌}
-use native.Mathlib.Omega.{arith}
-use mathlib.Core.Path.{◌≡◌, ap, ◌∙◌}
+use mathlib.Core.Path.{◌≡◌}
 use Rattle.acceptance.specs.Promises.{counts_to}
-use Rattle.acceptance.proofs.Tallies.{counts_none, counts_more, counts_below}
 use Rattle.acceptance.proofs.count_systems.Given as goal
 
 abbrev pub invariant-loop-t : goal.invariant-loop-t

@@ -5,7 +5,6 @@ use lib.ListN.{length}
 use lib.Ieee.{binary64, of_bits}
 use Rattle.text.proofs.Lists.{length_zeros}
 use Rattle.acceptance.proofs.Runs.{square_small, code_of_filled}
-use borrow.Author.Rules.{rules}
 use Rattle.acceptance.proofs.fill_and_run.Goals as goal
 
 pub overflow_mul-size : goal.overflow_mul-size

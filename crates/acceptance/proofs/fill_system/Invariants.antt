@@ -1,8 +1,6 @@
 -- `acceptance::fill_system` meets its contract. The loop's invariant: the digits of what is left, and what stands from p on, are those of t. The measure is p. Assumes nothing.
-use Prim.Native.Nat.{◌-◌}
-use native.Mathlib.Omega.{arith}
 use lib.ListN.{length}
-use Rattle.acceptance.proofs.Systems.{FilledUp, fill_none, fill_turn, fill_done}
+use Rattle.acceptance.proofs.Systems.{FilledUp}
 use Rattle.acceptance.proofs.fill_system.Given as goal
 
 abbrev pub invariant-loop-p : goal.invariant-loop-p

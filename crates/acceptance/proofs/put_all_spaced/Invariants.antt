@@ -1,12 +1,9 @@
 -- `acceptance::put_all_spaced` meets its contract. The loop's invariant: the first k numbers are written. Assumes nothing.
 use Prim.Native.Nat.{◌-◌, ◌≤◌}
-use native.Mathlib.Omega.{arith}
-use mathlib.Core.Path.{◌≡◌, refl, ap, ◌∙◌}
+use mathlib.Core.Path.{◌≡◌}
 use lib.ListN.{length}
 use Rattle.text.specs.Writing.{Written, pieces}
-use Rattle.text.proofs.Texts.{as_text, pieces_none, pieces_turn}
 use Rattle.acceptance.specs.Counts.{spaced}
-use Rattle.acceptance.proofs.Lines.{length_spaced}
 use Rattle.acceptance.proofs.put_all_spaced.Given as goal
 
 abbrev pub invariant-loop-k : goal.invariant-loop-k

@@ -3,7 +3,6 @@ use native.Mathlib.Omega.{arith}
 use Rattle.text.proofs.Texts.{as_text}
 use Rattle.acceptance.proofs.Systems.{total_small}
 use Rattle.acceptance.proofs.Lines.{line_of}
-use borrow.Author.Rules.{rules}
 use Rattle.acceptance.proofs.put_line.Goals as goal
 
 pub count_systems-counts-requires : goal.count_systems-counts-requires

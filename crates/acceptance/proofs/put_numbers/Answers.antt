@@ -4,7 +4,6 @@ use lib.ListN.{length}
 use Rattle.text.proofs.Texts.{then}
 use Rattle.acceptance.specs.Counts.{numbers_line}
 use Rattle.acceptance.proofs.Lines.{length_spaced, head_fits}
-use borrow.Author.Rules.{rules}
 use Rattle.acceptance.proofs.put_numbers.Goals as goal
 
 pub put_byte-requires : goal.put_byte-requires

@@ -1,9 +1,7 @@
 -- `acceptance::put_order` meets its contract. The loop's invariant: the lines of the first k runs are written. Assumes nothing.
-use Prim.Native.Nat.{◌-◌, ◌≤◌}
 use native.Mathlib.Omega.{arith}
 use mathlib.Core.Path.{◌≡◌, refl, ap, ◌∙◌}
-use lib.ListN.{length}
-use Rattle.text.specs.Writing.{Written, pieces}
+use Rattle.text.specs.Writing.{pieces}
 use Rattle.text.proofs.Texts.{as_text, pieces_none, pieces_turn}
 use Rattle.acceptance.specs.declared.Run.{Run}
 use Rattle.acceptance.specs.Counts.{run_of, line}

@@ -1,9 +1,7 @@
 -- `acceptance::put_orders` meets its contract. The loop's invariant: the lines of the orders below n are written. Assumes nothing.
-use Prim.Native.Nat.{◌-◌, ◌≤◌}
 use native.Mathlib.Omega.{arith}
 use mathlib.Core.Path.{◌≡◌, refl, ap, ◌∙◌}
-use lib.ListN.{length}
-use Rattle.text.specs.Writing.{Written, pieces}
+use Rattle.text.specs.Writing.{pieces}
 use Rattle.text.proofs.Texts.{as_text, pieces_none, pieces_turn}
 use Rattle.acceptance.specs.Counts.{order_lines, listing}
 use Rattle.acceptance.proofs.Lines.{length_orders}

@@ -1,12 +1,9 @@
 -- `acceptance::put_orders` meets its contract. The loop's invariant: the lines of the orders below n are written. Assumes nothing.
 use Prim.Native.Nat.{◌-◌, ◌≤◌}
-use native.Mathlib.Omega.{arith}
-use mathlib.Core.Path.{◌≡◌, refl, ap, ◌∙◌}
+use mathlib.Core.Path.{◌≡◌}
 use lib.ListN.{length}
 use Rattle.text.specs.Writing.{Written, pieces}
-use Rattle.text.proofs.Texts.{as_text, pieces_none, pieces_turn}
-use Rattle.acceptance.specs.Counts.{order_lines, listing}
-use Rattle.acceptance.proofs.Lines.{length_orders}
+use Rattle.acceptance.specs.Counts.{order_lines}
 use Rattle.acceptance.proofs.put_orders.Given as goal
 
 abbrev pub invariant-loop-n : goal.invariant-loop-n

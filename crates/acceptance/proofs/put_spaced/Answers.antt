@@ -2,7 +2,6 @@
 use native.Mathlib.Omega.{arith}
 use Rattle.text.proofs.Texts.{then}
 use Rattle.text.proofs.Decimals.{length_decimal}
-use borrow.Author.Rules.{rules}
 use Rattle.acceptance.proofs.put_spaced.Goals as goal
 
 pub put_decimal-requires : goal.put_decimal-requires

@@ -1,6 +1,5 @@
 -- `acceptance::run_of` meets its contract. Assumes nothing.
 use Rattle.acceptance.proofs.Runs.{run_blocked}
-use borrow.Author.Rules.{rules}
 use Rattle.acceptance.proofs.run_of.Goals as goal
 
 pub returns-else-k-eq0 : goal.returns-else-k-eq0

@@ -1,7 +1,6 @@
 -- `acceptance::run_system` meets its contract: each pipeline did what its definition says. Assumes nothing.
 use mathlib.Core.Path.{ap, ◌∙◌}
 use Rattle.calls.specs.Pipelines.{Ended}
-use borrow.Author.Rules.{rules}
 use Rattle.acceptance.proofs.run_system.Goals as goal
 
 pub returns-in-Plain : goal.returns-in-Plain

@@ -6,7 +6,6 @@ use lib.Ieee.{binary64, of_bits}
 use Rattle.shape.specs.Places.{triangle}
 use Rattle.text.proofs.Lists.{length_zeros}
 use Rattle.acceptance.proofs.Systems.{triangle_small}
-use borrow.Author.Rules.{rules}
 use Rattle.acceptance.proofs.system_code.Goals as goal
 
 -- the entries, for which the array has room

@@ -1,7 +1,6 @@
 -- `acceptance::tallied` meets its contract. Assumes nothing.
 use native.Mathlib.Omega.{arith}
 use borrow.Author.Tests.{eq-eqb, ne_eqb}
-use borrow.Author.Rules.{rules}
 use Rattle.acceptance.proofs.tallied.Goals as goal
 
 pub returns-then-code-wanted : goal.returns-then-code-wanted

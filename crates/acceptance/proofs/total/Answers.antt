@@ -1,6 +1,5 @@
 -- `acceptance::total` meets its contract. The loop's invariant: the product is a power of 5. Assumes nothing.
-use Prim.Native.Nat.{◌-◌, ◌≤◌, ◌^◌}
-use mathlib.Core.Path.{◌≡◌, refl, ap, ◌∙◌}
+use mathlib.Core.Path.{refl, ap, ◌∙◌}
 use native.Mathlib.Omega.{arith}
 use Rattle.shape.specs.Places.{triangle}
 use Rattle.acceptance.proofs.Systems.{product_fits, product_turn, product_done}

@@ -1,9 +1,7 @@
 -- `acceptance::total` meets its contract. The loop's invariant: the product is a power of 5. Assumes nothing.
 use Prim.Native.Nat.{◌-◌, ◌≤◌, ◌^◌}
-use mathlib.Core.Path.{◌≡◌, refl, ap, ◌∙◌}
-use native.Mathlib.Omega.{arith}
+use mathlib.Core.Path.{◌≡◌}
 use Rattle.shape.specs.Places.{triangle}
-use Rattle.acceptance.proofs.Systems.{product_fits, product_turn, product_done}
 use Rattle.acceptance.proofs.total.Given as goal
 
 abbrev pub invariant-loop-i : goal.invariant-loop-i

@@ -2,7 +2,6 @@
 use mathlib.Core.Path.{sym, ap, ap₂, ◌∙◌}
 use mathlib.Core.Bool.{Bool, cond}
 use lib.Ieee.{of_bits}
-use borrow.Author.Rules.{rules}
 use Rattle.binary64.specs.Kinds.{positive}
 use Rattle.binary64.specs.Root.{root, exact}
 use Rattle.binary64.specs.Judged.{judged}

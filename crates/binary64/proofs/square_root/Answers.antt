@@ -1,15 +1,10 @@
 -- `binary64::square_root` meets its contract, kind by kind. Assumes nothing.
-use borrow.Enum.Refused.{opened}
 use mathlib.Core.Path.{◌≡◌, refl, sym, ap, ◌∙◌, subst}
 use mathlib.Core.Logic.{◌⊎◌, inl, inr}
 use mathlib.Core.Bool.{Bool, true, false, not}
-use mathlib.Core.List.{[], ◌∷◌}
 use Prim.Native.Nat.{ℕ, ◌*◌, ◌^◌, ◌<◌}
 use lib.Dec.{T}
 use lib.Ieee.{Float, nan, binary64, div, of_bits, to_bits, fits, is_nan, nan_bits}
-use types.Run.{OneOf, miss}
-use denote.Enum.Declared.{tag_of}
-use borrow.Author.Rules.{rules}
 use Rattle.binary64.specs.declared.kinds.Kind.{Kind}
 use Rattle.binary64.specs.declared.kinds.Kind.TheVariants.{Zero, Subnormal, Normal, Infinite, NaN}
 use Rattle.binary64.specs.Kinds.{kind, finite_kind, finite, positive}
@@ -17,7 +12,6 @@ use Rattle.binary64.specs.Root.{root_bits, root_by, root, squares_to, exact}
 use Rattle.binary64.specs.RootSteps.{PositiveFinite}
 use Rattle.binary64.proofs.Values.{nan_of_kind, number_of_kind, pattern_number}
 use Rattle.binary64.proofs.RootLaws.{root_is, positive_pattern, root_below, exact_bits, inexact_below, inexact_infinite, inexact_zero}
-use Rattle.binary64.specs.contracts.kinds.Kind.{the_type}
 use Rattle.binary64.proofs.square_root.Goals as goal
 
 -- ---- a zero, an infinity, a NaN

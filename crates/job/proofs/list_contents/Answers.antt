@@ -1,7 +1,6 @@
 -- `job::list_contents` meets its contract. A fault is listed as a refusal; else the job is listed. Assumes nothing.
 use native.Mathlib.Omega.{arith}
 use mathlib.Core.Path.{sym, ap, ◌∙◌}
-use borrow.Author.Rules.{rules}
 use Rattle.job_format.specs.Format.{Contents, parsed_as}
 use Rattle.job.specs.Listing.{listed}
 use Rattle.text.proofs.Texts.{as_text}

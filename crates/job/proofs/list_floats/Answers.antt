@@ -2,7 +2,6 @@
 use mathlib.Core.Path.{◌≡◌, refl}
 use mathlib.Core.List.{List}
 use lib.Ieee.{Float}
-use borrow.Author.Rules.{rules}
 use Rattle.job.specs.Listing.{listing_of}
 use Rattle.job_format.specs.declared.Sizes.{Sizes}
 use Rattle.text.proofs.Texts.{as_text}

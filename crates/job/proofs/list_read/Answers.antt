@@ -7,7 +7,6 @@ use Rattle.job_format.specs.Format.{InBounds}
 use native.Mathlib.Omega.{arith}
 use lib.ListN.{length}
 use lib.Ieee.{binary64, of_bits}
-use borrow.Author.Rules.{rules}
 use Rattle.job_format.proofs.Formats.{triangle_small, values_small}
 use Rattle.text.proofs.Lists.{length_zeros}
 use Rattle.job.proofs.list_read.Goals as goal

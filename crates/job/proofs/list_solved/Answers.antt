@@ -3,7 +3,6 @@ use native.Mathlib.Omega.{arith}
 use Rattle.text.proofs.Texts.{as_text}
 use Rattle.job_format.proofs.Formats.{triangle_small, values_small}
 use Rattle.job.proofs.Listings.{result_short, job_success_of, solved_lines}
-use borrow.Author.Rules.{rules}
 use Rattle.job.proofs.list_solved.Goals as goal
 
 pub put_result-requires : goal.put_result-requires

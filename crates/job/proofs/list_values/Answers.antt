@@ -7,7 +7,6 @@ use Rattle.job_format.specs.declared.Sizes.{Sizes}
 use Rattle.job_format.specs.Format.{InBounds}
 use Rattle.job_format.proofs.Formats.{triangle_small, values_small}
 use Rattle.text.proofs.Lists.{length_zeros}
-use borrow.Author.Rules.{rules}
 use Rattle.job.proofs.list_values.Goals as goal
 
 -- the arrays have room for the values of the matrix and of the right-hand sides

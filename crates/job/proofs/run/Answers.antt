@@ -5,7 +5,6 @@ use Rattle.job_format.specs.Format.{parsed_sizes}
 use Rattle.text.proofs.Texts.{as_text, nothing_written}
 use Rattle.job.proofs.Listings.{end_short, no_room, listing_fault, listing_sizes}
 use Rattle.job_format.proofs.Formats.{sizes_bounds}
-use borrow.Author.Rules.{rules}
 use Rattle.job.proofs.run.Goals as goal
 
 pub returns-then-out-lt-LISTING : goal.returns-then-out-lt-LISTING

@@ -1,13 +1,11 @@
 -- `job::solve_job` meets its contract. A refusal of 7 or 8 is the job's verdict; else it is the pipeline's, with work memory lent from an array of zeros.
 -- Assumes nothing.
-use Prim.Native.Nat.{◌≤◌}
 use native.Mathlib.Omega.{arith}
 use mathlib.Core.Path.{◌≡◌}
 use Rattle.shape.specs.Places.{block_work}
 use lib.Ieee.{binary64, of_bits}
 use Rattle.text.proofs.Lists.{length_zeros}
 use Rattle.job.proofs.Listings.{ended_as, refused_by_7, refused_by_8, job_ran, work_small}
-use borrow.Author.Rules.{rules}
 use Rattle.job.proofs.solve_job.Goals as goal
 
 pub returns-then-checked-ne0 : goal.returns-then-checked-ne0

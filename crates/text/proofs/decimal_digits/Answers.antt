@@ -3,7 +3,7 @@ use Prim.Native.Nat.{◌-◌}
 use native.Mathlib.Omega.{arith}
 use lib.ListN.{length-set}
 use mathlib.Core.Path.{◌∙◌, sym}
-use Rattle.text.proofs.Decimals.{DigitsUp, digits_none, digits_turn, digits_end}
+use Rattle.text.proofs.Decimals.{digits_none, digits_turn, digits_end}
 use Rattle.text.proofs.decimal_digits.Goals as goal
 
 pub loop-left-init : goal.loop-left-init

@@ -1,9 +1,5 @@
 -- `text::decimal_digits` meets its contract. The loop's invariant: the digits of what is left, and those that stand from i on, are those of n. Assumes nothing.
-use Prim.Native.Nat.{◌-◌}
-use native.Mathlib.Omega.{arith}
-use lib.ListN.{length-set}
-use mathlib.Core.Path.{◌∙◌, sym}
-use Rattle.text.proofs.Decimals.{DigitsUp, digits_none, digits_turn, digits_end}
+use Rattle.text.proofs.Decimals.{DigitsUp}
 use Rattle.text.proofs.decimal_digits.Given as goal
 
 abbrev pub invariant-loop-left : goal.invariant-loop-left

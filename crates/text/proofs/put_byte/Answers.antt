@@ -1,6 +1,5 @@
 -- `text::put_byte` meets its contract. One byte is written. Assumes nothing.
 use Rattle.text.proofs.Texts.{byte_written}
-use borrow.Author.Rules.{rules}
 use Rattle.text.proofs.put_byte.Goals as goal
 
 pub returns : goal.returns

@@ -4,7 +4,6 @@ use mathlib.Core.Path.{ap}
 use lib.ListN.{length}
 use Rattle.text.proofs.Texts.{as_text}
 use Rattle.text.proofs.Decimals.{tail_text}
-use borrow.Author.Rules.{rules}
 use Rattle.text.proofs.put_decimal.Goals as goal
 
 pub put_text-requires : goal.put_text-requires

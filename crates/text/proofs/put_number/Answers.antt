@@ -1,7 +1,6 @@
 -- `text::put_number` meets its contract. The number, then the byte that ends it. Assumes nothing.
 use native.Mathlib.Omega.{arith}
 use Rattle.text.proofs.Texts.{then}
-use borrow.Author.Rules.{rules}
 use Rattle.text.proofs.put_number.Goals as goal
 
 pub returns : goal.returns

@@ -1,9 +1,6 @@
 -- `text::put_text` meets its contract. The loop's invariant: i bytes of the text are copied. Assumes nothing.
-use Prim.Native.Nat.{◌-◌, ◌≤◌}
 use native.Mathlib.Omega.{arith}
-use mathlib.Core.Path.{◌≡◌}
-use lib.ListN.{length}
-use lib.Seq.{paste, paste-zero}
+use lib.Seq.{paste-zero}
 use Rattle.text.proofs.Texts.{length_copied, copy_turn, copy_done}
 use Rattle.text.proofs.put_text.Goals as goal
 

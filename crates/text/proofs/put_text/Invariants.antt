@@ -1,10 +1,8 @@
 -- `text::put_text` meets its contract. The loop's invariant: i bytes of the text are copied. Assumes nothing.
 use Prim.Native.Nat.{◌-◌, ◌≤◌}
-use native.Mathlib.Omega.{arith}
 use mathlib.Core.Path.{◌≡◌}
 use lib.ListN.{length}
-use lib.Seq.{paste, paste-zero}
-use Rattle.text.proofs.Texts.{length_copied, copy_turn, copy_done}
+use lib.Seq.{paste}
 use Rattle.text.proofs.put_text.Given as goal
 
 abbrev pub invariant-loop-i : goal.invariant-loop-i

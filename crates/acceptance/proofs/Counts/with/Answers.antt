@@ -1,6 +1,5 @@
 -- `acceptance::Counts::with` meets its contract. Each count by its code. Assumes nothing.
 use mathlib.Core.Path.{refl}
-use borrow.Author.Rules.{rules}
 use Rattle.acceptance.proofs.Counts.with.Goals as goal
 
 pub returns : goal.returns

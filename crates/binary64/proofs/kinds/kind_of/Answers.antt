@@ -4,7 +4,6 @@ use mathlib.Core.Bool.{true, false, not, true≢false}
 use lib.Dec.{T}
 use lib.Ieee.{Float, nan, inf, fin, ne, is_nan}
 use lib.Ieee.Compare.{differs_from_itself}
-use borrow.Author.Rules.{rules}
 use Rattle.binary64.specs.declared.kinds.Kind.TheVariants.{NaN}
 use Rattle.binary64.specs.Kinds.{kind}
 use Rattle.binary64.proofs.KindLaws.{kind_nan_value}

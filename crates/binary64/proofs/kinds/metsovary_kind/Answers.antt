@@ -1,6 +1,5 @@
 -- `binary64::kinds::metsovary_kind` meets its contract. Assumes nothing.
 use mathlib.Core.Path.{ap, ◌∙◌}
-use borrow.Author.Rules.{rules}
 use Rattle.binary64.specs.Kinds.{kind_number}
 use Rattle.binary64.proofs.kinds.metsovary_kind.Goals as goal
 

@@ -1,10 +1,7 @@
 -- `binary64::root::integer_root` meets its contract. The invariant of its loop: i digits are found, and i is at most 54. The measure is how many are not.
 -- Assumes nothing.
-use mathlib.Core.Logic.{⊎_elim}
-use mathlib.Core.Path.{◌≡◌, subst}
-use Prim.Native.Nat.{ℕ, ◌-◌, ◌^◌, ◌≤◌, ◌<◌}
-use native.Mathlib.Omega.{arith}
-use Rattle.binary64.proofs.IntegerRoots.{Digits, digit_zero, digit_one, digits_none, digits_all, digits_lt}
+use Prim.Native.Nat.{◌-◌, ◌≤◌}
+use Rattle.binary64.proofs.IntegerRoots.{Digits}
 use Rattle.binary64.proofs.root.integer_root.Given as goal
 
 abbrev pub invariant-loop-i : goal.invariant-loop-i

@@ -11,7 +11,6 @@ use lib.Dec.{lit≤}
 use lib.Count.{count_leading_zeros}
 use types.Run.{OneOf}
 use denote.Enum.Declared.{tag_of}
-use borrow.Author.Rules.{rules}
 use Rattle.binary64.specs.declared.kinds.Kind.TheVariants.{Subnormal, Normal}
 use Rattle.binary64.specs.Kinds.{kind_of_bits}
 use Rattle.binary64.specs.RootSteps.{PositiveFinite, Normalised}

@@ -1,10 +1,9 @@
--- `binary64::root::root_of_bits` meets its contract: the shift loses nothing, so the integer root is that of `radicand`, and `rounded-found` says the rest.
+-- `binary64::root::root_of_bits` meets its contract: the shift loses nothing, so the integer root is that of `radicand`, and `rounded_found` says the rest.
 -- Assumes nothing.
 use mathlib.Core.Path.{◌≡◌, sym, subst}
 use Prim.Native.Nat.{ℕ, ◌*◌, ◌%◌, ◌^◌, ◌<◌}
 use native.Mathlib.Nat.{mod-eq_of_lt}
 use native.Mathlib.Omega.{arith}
-use borrow.Author.Rules.{rules}
 use Rattle.binary64.specs.RootSteps.{Normalised, IntegerRoot}
 use Rattle.binary64.proofs.Rounding.{radicand, even_range, root_range, rounded_found}
 use Rattle.binary64.proofs.root.root_of_bits.Goals as goal

@@ -3,7 +3,6 @@ use borrow.Enum.Refused.{opened}
 use mathlib.Core.Path.{sym, ◌∙◌, subst}
 use mathlib.Core.List.{[], ◌∷◌}
 use lib.Dec.{T}
-use borrow.Author.Rules.{rules}
 use Rattle.binary64.specs.declared.kinds.Kind.TheVariants.{NaN}
 use Rattle.binary64.proofs.KindLaws.{other_arm}
 use Rattle.binary64.proofs.Values.{number_of_kind}

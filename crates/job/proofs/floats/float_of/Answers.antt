@@ -3,7 +3,6 @@ use borrow.Enum.Refused.{opened}
 use mathlib.Core.Path.{sym, ◌∙◌}
 use mathlib.Core.List.{[], ◌∷◌}
 use native.Mathlib.Omega.{arith}
-use borrow.Author.Rules.{rules}
 use Rattle.binary64.specs.declared.kinds.Kind.TheVariants.{NaN}
 use Rattle.binary64.proofs.KindLaws.{other_arm}
 use Rattle.job.proofs.Patterns.{pattern_nan, pattern_number}

@@ -1,10 +1,7 @@
 -- `job::floats::floats_of` meets its contract. The loop's invariant: the first k values are there. Assumes nothing.
-use Prim.Native.Nat.{◌-◌}
 use native.Mathlib.Omega.{arith}
-use borrow.Author.Rules.{rules}
 use mathlib.Core.Path.{refl, sym, ◌∙◌}
-use lib.ListN.{length}
-use Rattle.job.proofs.Patterns.{FloatsTo, floats_turn, floats_all}
+use Rattle.job.proofs.Patterns.{floats_turn, floats_all}
 use Rattle.job.proofs.floats.floats_of.Goals as goal
 
 pub loop-k-init : goal.loop-k-init

@@ -1,7 +1,6 @@
 -- `job::listing::hex_digit` meets its contract. By the two cases of `hex_digit`. Assumes nothing.
 use borrow.Author.Tests.{lt-ltb, le-ltb}
 use Rattle.job.specs.Listing.{hex_digit}
-use borrow.Author.Rules.{rules}
 use Rattle.job.proofs.listing.hex_digit.Goals as goal
 
 pub returns-then-d-lt10 : goal.returns-then-d-lt10

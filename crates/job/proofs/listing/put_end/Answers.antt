@@ -3,7 +3,6 @@ use native.Mathlib.Omega.{arith}
 use Rattle.text.proofs.Decimals.{length_number}
 use Rattle.text.proofs.Texts.{then, as_text}
 use Rattle.job.proofs.Texts.{end_text, length_end_line, end_fits_code}
-use borrow.Author.Rules.{rules}
 use Rattle.job.proofs.listing.put_end.Goals as goal
 
 pub put_text-next-requires : goal.put_text-next-requires

@@ -1,7 +1,6 @@
 -- `job::listing::put_fault` meets its contract. The last line alone after 13, else after the job's line. Assumes nothing.
 use native.Mathlib.Omega.{arith}
 use mathlib.Core.Path.{ap}
-use borrow.Author.Rules.{rules}
 use lib.ListN.{length, length-append}
 use Rattle.job.specs.Listing.{job_line, end_line}
 use Rattle.text.proofs.Texts.{then, as_text}

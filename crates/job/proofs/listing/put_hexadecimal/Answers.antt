@@ -1,9 +1,6 @@
 -- `job::listing::put_hexadecimal` meets its contract. The loop's invariant: the first i digits are written. Assumes nothing.
-use Prim.Native.Nat.{◌+◌, ◌-◌, ◌≤◌}
 use native.Mathlib.Omega.{arith}
-use borrow.Author.Rules.{rules}
-use Rattle.text.specs.Writing.{Written}
-use Rattle.job.proofs.Texts.{hex_digits, hex_turn, length_hex, hex_start, hex_done}
+use Rattle.job.proofs.Texts.{hex_turn, length_hex, hex_start, hex_done}
 use Rattle.job.proofs.listing.put_hexadecimal.Goals as goal
 
 pub loop-i-init : goal.loop-i-init

@@ -1,9 +1,7 @@
 -- `job::listing::put_hexadecimal` meets its contract. The loop's invariant: the first i digits are written. Assumes nothing.
 use Prim.Native.Nat.{◌+◌, ◌-◌, ◌≤◌}
-use native.Mathlib.Omega.{arith}
-use borrow.Author.Rules.{rules}
 use Rattle.text.specs.Writing.{Written}
-use Rattle.job.proofs.Texts.{hex_digits, hex_turn, length_hex, hex_start, hex_done}
+use Rattle.job.proofs.Texts.{hex_digits}
 use Rattle.job.proofs.listing.put_hexadecimal.Given as goal
 
 abbrev pub invariant-loop-i : goal.invariant-loop-i

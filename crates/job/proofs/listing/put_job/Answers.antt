@@ -3,7 +3,6 @@ use native.Mathlib.Omega.{arith}
 use Rattle.text.proofs.Decimals.{length_number}
 use Rattle.text.proofs.Texts.{then, as_text}
 use Rattle.job.proofs.Texts.{job_text, length_job_line, job_fits_order, job_fits_block}
-use borrow.Author.Rules.{rules}
 use Rattle.job.proofs.listing.put_job.Goals as goal
 
 pub put_text-next-requires : goal.put_text-next-requires

@@ -2,7 +2,6 @@
 use native.Mathlib.Omega.{arith}
 use Rattle.text.proofs.Texts.{then, as_text}
 use Rattle.job.proofs.Texts.{job_fits, refused_fits, accepted_fits, refused_lines, accepted_lines, two_fit}
-use borrow.Author.Rules.{rules}
 use Rattle.job.proofs.listing.put_result.Goals as goal
 
 pub put_job-next-requires : goal.put_job-next-requires

@@ -5,7 +5,6 @@ use mathlib.Core.List.{[], ◌∷◌}
 use Rattle.job.specs.Listing.{solution_lines}
 use Rattle.text.proofs.Texts.{then}
 use Rattle.job.proofs.Texts.{length_solution_lines, length_value_lines}
-use borrow.Author.Rules.{rules}
 use Rattle.job.proofs.listing.put_solution.Goals as goal
 
 pub put_values-next-requires : goal.put_values-next-requires

@@ -3,7 +3,6 @@ use native.Mathlib.Omega.{arith}
 use Rattle.job.specs.Listing.{value_line}
 use Rattle.text.proofs.Texts.{then}
 use Rattle.job.proofs.Texts.{length_hexadecimal, length_join}
-use borrow.Author.Rules.{rules}
 use Rattle.job.proofs.listing.put_value.Goals as goal
 
 pub put_byte-requires : goal.put_byte-requires

@@ -1,9 +1,6 @@
 -- `job::listing::put_values` meets its contract. The loop's invariant: the lines of the first k values are written. Assumes nothing.
-use Prim.Native.Nat.{◌-◌, ◌≤◌}
 use native.Mathlib.Omega.{arith}
-use mathlib.Core.Path.{◌≡◌, refl, ◌∙◌}
-use lib.ListN.{length}
-use Rattle.text.specs.Writing.{Written, pieces}
+use mathlib.Core.Path.{refl, ◌∙◌}
 use Rattle.text.proofs.Texts.{as_text, pieces_none, pieces_turn}
 use Rattle.job.proofs.Texts.{line_at, length_lines, lines_all}
 use Rattle.job.proofs.listing.put_values.Goals as goal

@@ -1,7 +1,6 @@
 -- `shape::Shape::block_of` meets its contract: the product is at most j, so it fits. Assumes nothing.
 use mathlib.Core.Path.{refl}
 use native.Mathlib.Omega.{arith}
-use borrow.Author.Rules.{rules}
 use Rattle.shape.specs.Places.{block_of}
 use Rattle.shape.proofs.Blocks.{block_of_le}
 use Rattle.shape.proofs.Shape.block_of.Goals as goal

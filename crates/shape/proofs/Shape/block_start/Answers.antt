@@ -1,7 +1,6 @@
 -- `shape::Shape::block_start` meets its contract: the order is bounded, so the product fits. Assumes nothing.
 use mathlib.Core.Path.{refl}
 use native.Mathlib.Omega.{arith}
-use borrow.Author.Rules.{rules}
 use Rattle.shape.specs.Places.{block_start}
 use Rattle.shape.proofs.Bounds.{product_fits}
 use Rattle.shape.proofs.Shape.block_start.Goals as goal

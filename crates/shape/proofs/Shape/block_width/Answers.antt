@@ -1,5 +1,4 @@
 -- `shape::Shape::block_width` meets its contract: the width is the lesser of the two numbers. Assumes nothing.
-use borrow.Author.Rules.{rules}
 use Rattle.shape.specs.Places.{width}
 use Rattle.shape.proofs.Shape.block_width.Goals as goal
 

@@ -2,7 +2,6 @@
 use mathlib.Core.Path.{ap}
 use Prim.Native.Nat.{ℕ, ◌*◌}
 use native.Mathlib.Omega.{arith}
-use borrow.Author.Rules.{rules}
 use Rattle.shape.specs.Places.{block_work}
 use Rattle.shape.proofs.Bounds.{product_fits}
 use Rattle.shape.proofs.Shape.block_work.Goals as goal

@@ -1,7 +1,6 @@
 -- `shape::Shape::blocked_place` meets its contract: the block column begins at or before column j, and the sum is the entry's place,
 -- which is below triangle n. Assumes nothing.
 use native.Mathlib.Omega.{arith}
-use borrow.Author.Rules.{rules}
 use Rattle.shape.proofs.Blocks.{block_of_le, blocked_place_block}
 use Rattle.shape.proofs.Bijections.{blocked_bijection}
 use Rattle.shape.proofs.Bounds.{triangle_le}

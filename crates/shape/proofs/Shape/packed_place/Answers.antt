@@ -2,7 +2,6 @@
 -- is below triangle n. Assumes nothing.
 use mathlib.Core.Path.{refl}
 use native.Mathlib.Omega.{arith}
-use borrow.Author.Rules.{rules}
 use Rattle.shape.specs.Places.{packed_place}
 use Rattle.shape.proofs.Bijections.{packed_bijection}
 use Rattle.shape.proofs.Bounds.{triangle_le, product_fits}

@@ -2,7 +2,6 @@
 -- triangle r + s. Assumes nothing.
 use Prim.Native.Nat.{ℕ, ◌≤◌}
 use native.Mathlib.Omega.{arith}
-use borrow.Author.Rules.{rules}
 use borrow.Author.Tests.{lt-ltb, le-ltb}
 use Rattle.shape.specs.Bounds.{max_order}
 use Rattle.shape.specs.Places.{place_in_block}

@@ -1,7 +1,6 @@
 -- `shape::Shape::rfp_column` meets its contract, by the half that column j is in; row i is past the middle where column j is. Assumes nothing.
 use mathlib.Core.Path.{sym}
 use native.Mathlib.Omega.{arith}
-use borrow.Author.Rules.{rules}
 use Rattle.shape.proofs.Rfp.{rfp_columns_half, own_column, other_column}
 use Rattle.shape.proofs.Shape.rfp_column.Goals as goal
 

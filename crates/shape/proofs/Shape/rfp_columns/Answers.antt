@@ -1,6 +1,5 @@
 -- `shape::Shape::rfp_columns` meets its contract. Assumes nothing.
 use mathlib.Core.Path.{refl}
-use borrow.Author.Rules.{rules}
 use Rattle.shape.specs.Places.{rfp_columns}
 use Rattle.shape.proofs.Shape.rfp_columns.Goals as goal
 

@@ -2,7 +2,6 @@
 use mathlib.Core.Path.{◌≡◌, sym}
 use Prim.Native.Nat.{ℕ, ◌≤◌}
 use native.Mathlib.Omega.{arith}
-use borrow.Author.Rules.{rules}
 use Rattle.shape.specs.Bounds.{max_order}
 use Rattle.shape.specs.Places.{rfp_place}
 use Rattle.shape.specs.Layouts.{Entry}

@@ -1,7 +1,6 @@
 -- `shape::Shape::rfp_row` meets its contract, by the half that column j is in. Assumes nothing.
 use mathlib.Core.Path.{sym}
 use native.Mathlib.Omega.{arith}
-use borrow.Author.Rules.{rules}
 use Rattle.shape.proofs.Rfp.{own_row, other_row}
 use Rattle.shape.proofs.Shape.rfp_row.Goals as goal
 

@@ -1,6 +1,5 @@
 -- `shape::Shape::rfp_rows` meets its contract. Assumes nothing.
 use mathlib.Core.Path.{refl}
-use borrow.Author.Rules.{rules}
 use Rattle.shape.specs.Places.{rfp_rows}
 use Rattle.shape.proofs.Shape.rfp_rows.Goals as goal
 

@@ -1,7 +1,6 @@
 -- `shape::Shape::triangle` meets its contract: the order is bounded, so the product fits. Assumes nothing.
 use mathlib.Core.Path.{refl}
 use native.Mathlib.Omega.{arith}
-use borrow.Author.Rules.{rules}
 use Rattle.shape.specs.Places.{triangle}
 use Rattle.shape.proofs.Bounds.{product_fits}
 use Rattle.shape.proofs.Shape.triangle.Goals as goal
