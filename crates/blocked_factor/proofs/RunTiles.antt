@@ -42,6 +42,10 @@ tile_shape g few = go (dec_lt 8 g) (dec_lt 6 g) (dec_lt 4 g) (dec_lt 2 g)
         simp (le-ltb 8 g (omega arith), le-ltb 6 g (omega arith), le-ltb 4 g (omega arith), le-ltb 2 g (omega arith))
         (record { wide = omega arith; two = omega arith; fits = omega arith; some = omega arith })
 
+-- a number that is not the least one left
+pub above : (k g : ℕ) → k ≤ g → (g ≡ k → ⊥) → k + 1 ≤ g
+above k g low other = omega arith
+
 -- more than eight columns have a row of 16 lanes
 pub shape_wide : (g : ℕ) → 8 < g → (rows_of g ≡ 1) × (lanes_of g ≡ 16)
 shape_wide g h = simp (lt-ltb 8 g h) (refl, refl)
