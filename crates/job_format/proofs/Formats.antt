@@ -29,6 +29,12 @@ triangle_small n h = half_below (n * (n + 1)) 4160 (mul-le-mul h (le_trans (omeg
 pub values_small : (n m : ℕ) → n ≤ 64 → m ≤ 16 → n * m ≤ 1024
 values_small n m h k = mul-le-mul h k
 
+pub entries_fit : (sizes : Sizes) → InBounds sizes → (size : ℕ) → size ≡ triangle sizes.order → size ≤ 2080
+entries_fit sizes within size e = omega (arith, triangle_small sizes.order within.order)
+
+pub values_fit : (sizes : Sizes) → InBounds sizes → (size : ℕ) → size ≡ sizes.order * sizes.count → size ≤ 1024
+values_fit sizes within size e = omega (arith, values_small sizes.order sizes.count within.order within.count)
+
 -- ---- the map
 
 -- t values, of which the map has a bit each

@@ -1,22 +1,9 @@
 -- `job::list_read` meets its contract. The memory has room for every job within the bounds. Assumes nothing.
-use Prim.Native.Nat.{ℕ, ◌*◌, ◌≤◌}
-use mathlib.Core.Path.{◌≡◌}
-use Rattle.shape.specs.Places.{triangle}
-use Rattle.job_format.specs.declared.Sizes.{Sizes}
-use Rattle.job_format.specs.Format.{InBounds}
-use native.Mathlib.Omega.{arith}
 use lib.ListN.{length}
 use lib.Ieee.{binary64, of_bits}
-use Rattle.job_format.proofs.Formats.{triangle_small, values_small}
+use Rattle.job_format.proofs.Formats.{entries_fit, values_fit}
 use Rattle.text.proofs.Lists.{length_zeros}
 use Rattle.job.proofs.list_read.Goals as goal
-
--- the arrays have room for the values of the matrix and of the right-hand sides
-entries_fit : (sizes : Sizes) → InBounds sizes → (size : ℕ) → size ≡ triangle sizes.order → size ≤ 2080
-entries_fit sizes within size e = omega (arith, triangle_small sizes.order within.order)
-
-values_fit : (sizes : Sizes) → InBounds sizes → (size : ℕ) → size ≡ sizes.order * sizes.count → size ≤ 1024
-values_fit sizes within size e = omega (arith, values_small sizes.order sizes.count within.order within.count)
 
 pub slice_bounds-entries-end : goal.slice_bounds-entries-end
 slice_bounds-entries-end c = entries_fit c.args.sizes c.requires.in_bounds (length c.args.matrix.now) c.requires.matrix_len

@@ -1,20 +1,11 @@
 -- `job::list_values` meets its contract. The memory has room for every job within the bounds. Assumes nothing.
-use Prim.Native.Nat.{ℕ, ◌*◌, ◌≤◌}
+use Prim.Native.Nat.{◌*◌}
 use native.Mathlib.Omega.{arith}
-use mathlib.Core.Path.{◌≡◌, refl, sym, ap, ◌∙◌}
+use mathlib.Core.Path.{refl, sym, ap, ◌∙◌}
 use Rattle.shape.specs.Places.{triangle}
-use Rattle.job_format.specs.declared.Sizes.{Sizes}
-use Rattle.job_format.specs.Format.{InBounds}
-use Rattle.job_format.proofs.Formats.{triangle_small, values_small}
+use Rattle.job_format.proofs.Formats.{entries_fit, values_fit}
 use Rattle.text.proofs.Lists.{length_zeros}
 use Rattle.job.proofs.list_values.Goals as goal
-
--- the arrays have room for the values of the matrix and of the right-hand sides
-entries_fit : (sizes : Sizes) → InBounds sizes → (size : ℕ) → size ≡ triangle sizes.order → size ≤ 2080
-entries_fit sizes within size e = omega (arith, triangle_small sizes.order within.order)
-
-values_fit : (sizes : Sizes) → InBounds sizes → (size : ℕ) → size ≡ sizes.order * sizes.count → size ≤ 1024
-values_fit sizes within size e = omega (arith, values_small sizes.order sizes.count within.order within.count)
 
 pub overflow_mul-values : goal.overflow_mul-values
 overflow_mul-values c = omega (arith, values_fit c.args.sizes c.requires.in_bounds (c.args.sizes.order * c.args.sizes.count) refl)
