@@ -1,20 +1,15 @@
--- Laws of the runs of specs/Counts.antt: the run of a number, and the code of a system that was filled in, with work memory lent from an array of zeros. Assumes nothing.
-use Prim.Native.Nat.{ℕ, zero, suc, ◌*◌, ◌≤◌}
+-- Laws of the runs of specs/Counts.antt: the code of a system that was filled in, with work memory lent from an array of zeros. Assumes nothing.
+use Prim.Native.Nat.{ℕ, ◌*◌, ◌≤◌}
 use native.Mathlib.Nat.{mul-le-mul}
-use mathlib.Core.Path.{◌≡◌, refl, ap, ap₂, ◌∙◌}
+use mathlib.Core.Path.{◌≡◌, ap, ap₂, ◌∙◌}
 use mathlib.Core.List.{List, []}
 use lib.ListN.{take, replicate}
 use lib.Ieee.{Float, binary64, of_bits}
 use Rattle.shape.specs.Places.{triangle}
 use Rattle.text.proofs.Lists.{take_zeros}
 use Rattle.acceptance.specs.declared.Run.{Run}
-use Rattle.acceptance.specs.declared.Run.TheVariants.{Blocked}
 use Rattle.acceptance.specs.Systems.{wholes, values}
-use Rattle.acceptance.specs.Counts.{run_of, ended_on, code_of}
-
-pub run_blocked : (k : ℕ) → (k ≡ 0 → ⊥) → Blocked k ≡ run_of k
-run_blocked zero h = absurd (h refl)
-run_blocked (suc k) h = refl
+use Rattle.acceptance.specs.Counts.{ended_on, code_of}
 
 pub square_small : (n : ℕ) → n ≤ 3 → n * n ≤ 9
 square_small n h = mul-le-mul h h

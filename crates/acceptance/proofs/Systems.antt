@@ -2,7 +2,6 @@
 -- numbers; and the loop that fills a memory. Assumes nothing.
 use Prim.Native.Nat.{ℕ, zero, suc, ◌+◌, ◌-◌, ◌*◌, ◌/◌, ◌%◌, ◌^◌, ◌≤◌, ◌<◌}
 use native.Mathlib.Nat.{pow-suc, pow-le-pow_right, zero-lt-suc}
-use native.Mathlib.Numerals.{add-one}
 use native.Mathlib.Omega.{arith}
 use native.Mathlib.Decide.{dec_lt}
 use mathlib.Core.Path.{◌≡◌, refl, sym, ap, ap₂, ◌∙◌, subst}
@@ -235,18 +234,3 @@ triangle_small (suc (suc (suc (suc n)))) h = absurd (omega arith)
 pub total_small : (n : ℕ) → n ≤ 3 → total n < 2 ^ 32
 unfolding total
 total_small n h = let p : 5 ^ triangle n ≤ 5 ^ 6 = pow-le-pow_right (zero-lt-suc 4) (triangle_small n h) in omega arith
-
--- a turn of the loop that multiplies
-module _ (n entries i product : ℕ) (small : n ≤ 3) (e : entries ≡ triangle n) (power : product ≡ 5 ^ i) where
-  pub product_fits : i < entries → product * 5 < 2 ^ 32
-  product_fits h =
-      let below : suc i ≤ 6 = omega (arith, triangle_small n small) in
-      let p : 5 ^ suc i ≤ 5 ^ 6 = pow-le-pow_right (zero-lt-suc 4) below in
-      omega (arith, pow-suc 5 i)
-
-  pub product_turn : product * 5 ≡ 5 ^ (i + 1)
-  product_turn = ap (λ x. x * 5) power ∙ sym (pow-suc 5 i) ∙ ap (λ k. 5 ^ k) (sym (add-one i))
-
-  pub product_done : i ≤ entries → entries ≤ i → product ≡ total n
-  unfolding total
-  product_done h l = let s : i ≡ triangle n = omega arith in power ∙ ap (λ k. 5 ^ k) s

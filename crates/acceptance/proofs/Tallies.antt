@@ -38,9 +38,9 @@ module _ (run : Run) (n : ℕ) where
       go true e h = omega arith
       go false e h = omega arith
 
-  pub counts_none : record { accepted = 0; nonpositive = 0; overflowed = 0; weak = 0 } ≡ counts_to run n 0
+  pub counts_none : (c : Counts) → c.accepted ≡ 0 → c.nonpositive ≡ 0 → c.overflowed ≡ 0 → c.weak ≡ 0 → c ≡ counts_to run n 0
   unfolding tally passing
-  counts_none = refl
+  counts_none c p q r s = λ i. record { accepted = p i; nonpositive = q i; overflowed = r i; weak = s i }
 
   -- a turn of the loop that counts
   pub counts_more : (t code : ℕ) (c r : Counts) → c ≡ counts_to run n t → code ≡ code_of run n t → r ≡ counted c code → r ≡ counts_to run n (t + 1)

@@ -5,19 +5,14 @@ use native.Mathlib.Decide.{dec_le}
 use native.Mathlib.Omega.{arith}
 use mathlib.Core.Path.{◌≡◌, refl, sym, ap, ◌∙◌, subst}
 use mathlib.Core.Bool.{Bool, true, false, not, ◌&&◌, cond, true≢false}
-use mathlib.Core.List.{List}
 use lib.Dec.{T, eqb}
 use lib.Pow.{low as low-digits}
 use lib.Ieee.{Float, nan, inf, fin, binary64, to_bits, of_bits, is_nan, nan_bits}
 use lib.Ieee.Bits.{to_bits-of_bits, nan_bits_is}
-use types.Run.{OneOf, miss}
-use mir.Val.{has_key}
-use denote.Enum.Declared.{tag_of}
 use borrow.Author.Tests.{lt-ltb, ne_eqb, eqb-true, eqb-false}
 use Rattle.binary64.specs.declared.kinds.Kind.{Kind}
 use Rattle.binary64.specs.declared.kinds.Kind.TheVariants.{Zero, Subnormal, Normal, Infinite, NaN}
 use Rattle.binary64.specs.Kinds.{exponent_field, fraction, FieldKind, all_zeros, between, all_ones, field_kind, FractionKind, zero_fraction, nonzero_fraction, fraction_kind, kind_of, kind_of_fields, kind_of_bits, kind}
-use Rattle.binary64.specs.contracts.kinds.Kind.{the_type}
 
 -- ---- the kind of a field x and a fraction t
 
@@ -97,11 +92,6 @@ field_is x t h l = omega arith
 pub fraction_is : (x t : ℕ) → t < 2 ^ 52 → fraction (x * 2 ^ 52 + t) ≡ t
 unfolding fraction
 fraction_is x t h = low-digits x 52 h
-
--- ---- a match: an arm for other variants is not taken for this one
-
-pub other_arm : (tags : List ℕ) (κ other : Kind) → T (not (has_key tags (tag_of the_type other))) → OneOf tags (tag_of the_type κ) → ¬ (κ ≡ other)
-other_arm tags κ other n h e = miss tags (tag_of the_type other) n (subst (λ k. OneOf tags (tag_of the_type k)) e h)
 
 -- ---- every pattern falls under exactly one case, whose row gives its kind, and that is the kind of its numbers
 

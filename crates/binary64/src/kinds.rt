@@ -2,7 +2,7 @@
 ghost use Rattle.std.specs.Prelude.{◌≡◌};
 ghost use Rattle.binary64.specs.Kinds.{kind_of_bits, kind, kind_number};
 
-#[derive(Clone, Copy)]
+#[derive(Clone, Copy, PartialEq, Eq)]
 pub enum Kind {
     Zero,
     Subnormal,
@@ -21,23 +21,12 @@ const SIGN: u64 = 0x8000_0000_0000_0000;
 pub fn kind_of_bits(bits: u64) -> Kind
     ensures { result ≡ kind_of_bits bits }
 {
-    let zero_fraction = bits % HIDDEN_BIT == 0;
-    match bits % SIGN / HIDDEN_BIT {
-        0 => {
-            if zero_fraction {
-                Kind::Zero
-            } else {
-                Kind::Subnormal
-            }
-        }
-        1..=2046 => Kind::Normal,
-        _ => {
-            if zero_fraction {
-                Kind::Infinite
-            } else {
-                Kind::NaN
-            }
-        }
+    match (bits % SIGN / HIDDEN_BIT, bits % HIDDEN_BIT == 0) {
+        (0, true) => Kind::Zero,
+        (0, false) => Kind::Subnormal,
+        (1..=2046, _) => Kind::Normal,
+        (_, true) => Kind::Infinite,
+        (_, false) => Kind::NaN,
     }
 }
 
@@ -51,27 +40,17 @@ pub fn kind_of(x: f64) -> Kind
     kind_of_bits(f64::to_bits(x))
 }
 
-fn kind_number(kind: Kind) -> u64
-    ensures { result ≡ kind_number kind }
-{
-    match kind {
-        Kind::Zero => 0,
-        Kind::Subnormal => 1,
-        Kind::Normal => 2,
-        Kind::Infinite => 3,
-        Kind::NaN => 4,
+// The number of a kind, by which C is told it.
+impl From<Kind> for u64 {
+    ghost from_gives = { λ kind number. number ≡ kind_number kind };
+
+    fn from(kind: Kind) -> u64 {
+        match kind {
+            Kind::Zero => 0,
+            Kind::Subnormal => 1,
+            Kind::Normal => 2,
+            Kind::Infinite => 3,
+            Kind::NaN => 4,
+        }
     }
-}
-
-// `kind_of` and `kind_of_bits` for crate binary64_c, which exports them to the tests in C.
-pub fn metsovary_kind(x: f64) -> u64
-    ensures { result ≡ kind_number (kind x) }
-{
-    kind_number(kind_of(x))
-}
-
-pub fn metsovary_kind_of_bits(bits: u64) -> u64
-    ensures { result ≡ kind_number (kind_of_bits bits) }
-{
-    kind_number(kind_of_bits(bits))
 }

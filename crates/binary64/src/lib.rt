@@ -9,7 +9,7 @@ ghost use Rattle.binary64.specs.Kinds.{finite};
 ghost use Rattle.binary64.specs.Root.{root, exact};
 ghost use Rattle.binary64.specs.Judged.{judged};
 
-pub use kinds::{Kind, kind_of, kind_of_bits, metsovary_kind, metsovary_kind_of_bits};
+pub use kinds::{Kind, kind_of, kind_of_bits};
 
 // A root, and whether its square is the argument exactly.
 #[derive(Clone, Copy)]
@@ -18,7 +18,8 @@ pub struct SquareRoot {
     pub exact: bool,
 }
 
-// What a pivot is judged to: its root and whether that is exact, or its refused value.
+// What a pivot is judged to: its root and whether that is exact, or its refused value. An enum of its own and no Result: the scope names its two cases as
+// the form of a pivot's outcome, which both factors match.
 #[derive(Clone, Copy)]
 pub enum Pivot {
     Root(f64, bool),
@@ -29,10 +30,7 @@ pub enum Pivot {
 pub fn is_finite(x: f64) -> bool
     ensures { result ≡ finite x }
 {
-    match kind_of(x) {
-        Kind::Zero | Kind::Subnormal | Kind::Normal => true,
-        Kind::Infinite | Kind::NaN => false,
-    }
+    matches!(kind_of(x), Kind::Zero | Kind::Subnormal | Kind::Normal)
 }
 
 // The root of every value, rounded to nearest, and its exactness: `specs/Root.antt` says which they are for a zero, an infinity, a NaN and what is below zero.
@@ -64,19 +62,6 @@ pub fn square_root(x: f64) -> SquareRoot
             exact: false,
         },
     }
-}
-
-// `square_root` for crate binary64_c, which exports it to other languages: its value, and its exactness.
-pub fn metsovary_square_root(x: f64) -> f64
-    ensures { result ≡ root x }
-{
-    square_root(x).value
-}
-
-pub fn metsovary_root_is_exact(x: f64) -> bool
-    ensures { result ≡ exact x }
-{
-    square_root(x).exact
 }
 
 // A pivot greater than zero has a root; a zero, a NaN and what is below zero are refused.

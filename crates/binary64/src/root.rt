@@ -34,7 +34,7 @@ fn normalise(bits: u64) -> Scaled
     let fraction = bits % HIDDEN_BIT;
     match kind_of_bits(bits) {
         Kind::Subnormal => {
-            let shift = u64::leading_zeros(fraction) as u64 - 11;
+            let shift = u64::from(fraction.leading_zeros()) - 11;
             Scaled {
                 significand: fraction << shift,
                 exponent: 1076 - shift,

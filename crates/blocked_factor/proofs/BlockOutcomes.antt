@@ -10,8 +10,8 @@ use lib.Ieee.{Float}
 use Rattle.binary64.specs.Kinds.{zero64}
 use Rattle.shape.specs.Places.{block_work, blocked_place}
 use Rattle.shape.specs.declared.Shape.{Shape}
+use Rattle.calls.specs.Judgements.{Judgement}
 use Rattle.calls.specs.declared.Verdict.{Verdict}
-use Rattle.calls.specs.declared.Judgement.{Judgement}
 use Rattle.calls.specs.declared.Layout.TheVariants.{Blocked}
 use Rattle.calls.specs.declared.Call.TheVariants.{Factor}
 use Rattle.calls.specs.Triangles.{Triangle, height, place_of, load, store}

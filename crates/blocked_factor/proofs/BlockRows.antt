@@ -3,7 +3,7 @@ use Prim.Native.Nat.{ℕ, zero, suc, ◌+◌, ◌≤◌, ◌<◌}
 use native.Mathlib.Numerals.{add-one}
 use native.Mathlib.Omega.{arith}
 use mathlib.Core.Path.{◌≡◌}
-use Rattle.shape.specs.Places.{triangle}
+use Rattle.shape.specs.Places.{triangle, place_in_block}
 use Rattle.shape.proofs.Columns.{triangle_next}
 use Rattle.shape.proofs.Parts.{starts, starts_zero, starts_mono, starts_lt, starts_apart}
 use Rattle.shape.proofs.Rows.{row_length, place_in_block_row, place_in_block_next_row}
@@ -12,6 +12,9 @@ use Rattle.blocked_factor.specs.BlockColumns.{row_start}
 module _ (w : ℕ) where
   row_starts : (r : ℕ) → row_start w r ≡ starts (row_length w) r
   row_starts r = omega (arith, place_in_block_row w r 0)
+
+  pub place_row : (r s : ℕ) → place_in_block w r s ≡ row_start w r + s
+  place_row r s = omega (arith, place_in_block_row w r s, place_in_block_row w r 0)
 
   pub row_next : (r : ℕ) → row_start w (r + 1) ≡ row_start w r + row_length w r
   row_next r = place_in_block_next_row w r 0

@@ -13,16 +13,15 @@ use lib.ListN.{length, get_or, take}
 use lib.Seq.{get_or-take, length-take-le}
 use lib.Ieee.{Float, nan}
 use lib.Ieee.Bits.{is_true}
-use Rattle.binary64.specs.Kinds.{finite}
+use Rattle.binary64.specs.Kinds.{finite, zero64}
 use Rattle.binary64.specs.Root.{root}
 use Rattle.binary64.specs.Judged.{judged}
 use Rattle.calls.specs.declared.Verdict.{Verdict}
-use Rattle.calls.specs.declared.Judgement.{Judgement}
 use Rattle.calls.specs.Sequences.{grow, tabulate, all, every}
 use Rattle.calls.specs.Triangles.{Triangle, entry, height}
 use Rattle.calls.specs.Arithmetic.{pivot, quotient, below}
-use Rattle.calls.specs.Refusals.{success, accepted, lowest_refusal, rule11, column_rules, column_verdict}
-use Rattle.calls.specs.Judgements.{judgement}
+use Rattle.calls.specs.Refusals.{success, accepted, refusal, lowest_refusal, rule11, column_rules, column_verdict}
+use Rattle.calls.specs.Judgements.{Judgement, judgement}
 use Rattle.calls.specs.Calls.{judge_column, exact_column}
 use Rattle.calls.proofs.Sequences.{length_tabulate, get_d_tabulate, tabulate_same, all_append, all_at, all_of}
 use Rattle.calls.proofs.Columns.{columns, entry_quotient}
@@ -237,7 +236,8 @@ module _
     -- no pivot up to the overflow's column refuses
     pub judged_below :
         s < w → (accepted first.verdict ≡ true) ⊎ ((accepted first.verdict ≡ false) × (c + s < first.verdict.place)) →
-        record { verdict = rule11 (c + s) false; exact = false } ≡ columns_to n a (c + w)
+        record { verdict = refusal 11 (c + s) zero64; exact = false } ≡ columns_to n a (c + w)
+    unfolding rule11
     judged_below narrow decided =
         let each : (j : ℕ) → j < suc (c + s) → T (accepted (judge_pivot n a j)) = passing decided in
         let found = overflow_decides first.verdict verdict_is narrow (λ j low. each j (omega arith)) in

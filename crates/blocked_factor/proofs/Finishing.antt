@@ -15,11 +15,10 @@ use Rattle.binary64.specs.Root.{root, exact}
 use Rattle.binary64.specs.Judged.{judged, exact_root}
 use Rattle.binary64.specs.declared.Pivot.{Pivot}
 use Rattle.binary64.specs.declared.Pivot.TheVariants.{Root, Refused}
-use Rattle.calls.specs.declared.Judgement.{Judgement}
 use Rattle.calls.specs.Triangles.{Triangle}
 use Rattle.calls.specs.Arithmetic.{minus_products}
 use Rattle.calls.specs.Refusals.{column_rules, column_exact}
-use Rattle.calls.specs.Judgements.{judgement, Joined}
+use Rattle.calls.specs.Judgements.{Judgement, judgement, Joined}
 use Rattle.calls.specs.Calls.{exact_column}
 use Rattle.kernels.specs.Kernels.{Filled, Replaced, Scattered, row_at}
 use Rattle.kernels.proofs.Parts.{length_part, part_replaced}
@@ -28,53 +27,33 @@ use Rattle.blocked_factor.specs.BlockStages.{judge_pivot, pivots_to, Entered, St
 use Rattle.blocked_factor.proofs.BlockRows.{row_next, row_mono, row_lt, row_apart}
 use Rattle.blocked_factor.proofs.Stages.{rows_in, rows_above, rows_under, stage_same, panel_pivot, panel_root, panel_quotient, stage_next, stage_updated, stage_all}
 
--- ---- a column of one row, and of eight
+-- ---- a column of some rows at once
 
-module _ (w s0 s r : ℕ) (left : s0 ≤ s) (narrow : s < w) (low : s < r) where
-  pub divided_one :
-      (m : List Float) → row_start w (r + 1) ≤ length m →
-      ColumnDivided w s0 s r (r + 1) m
-      (set m (row_start w r + s0 + (s - s0))
-      (div binary64
-      (minus_products (row_at m (row_start w r + s0)) (row_at m (row_start w s + s0)) (s - s0) (get_or m (row_start w r + s0 + (s - s0)) nan))
-      (get_or m (row_start w s + s0 + (s - s0)) nan)))
-  divided_one m room =
-      let place : row_start w r + s0 + (s - s0) ≡ row_start w r + s = omega arith in
-      let diagonal : row_start w s + s0 + (s - s0) ≡ row_start w s + s = omega arith in
-      let v : Float = div binary64 (less_panel w s0 m r s) (get_or m (row_start w s + s) nan) in
-      rw (place, diagonal)
-      (record {
-        kept = length-set m (row_start w r + s) v;
-        rows = λ r' from to.
-            let same : r' ≡ r = omega arith in
-            rw same (get_or-set_same m (row_start w r + s) v nan (omega (arith, row_next w r)));
-        outside = λ p none. get_or-set_other m (row_start w r + s) p v nan (none r (omega arith) (omega arith));
-      })
+module _ (w s0 s r n : ℕ) (left : s0 ≤ s) (narrow : s < w) (low : s < r) where
+  module _ (at : ℕ → ℕ) (places : (k : ℕ) → k < n → at k ≡ row_start w (r + k) + s0) where
+    pub rows_inside : (k : ℕ) → k < n → at k + (s - s0) < row_start w (r + n)
+    rows_inside k few = omega (arith, places k few, row_lt w (r + k) (r + n) s (omega arith) (omega arith))
 
-  module _ (at : ℕ → ℕ) (places : (k : ℕ) → k < 8 → at k ≡ row_start w (r + k) + s0) where
-    pub eight_inside : (k : ℕ) → k < 8 → at k + (s - s0) < row_start w (r + 8)
-    eight_inside k few = omega (arith, places k few, row_lt w (r + k) (r + 8) s (omega arith) (omega arith))
-
-    pub eight_apart : (k k' : ℕ) → k < 8 → k' < 8 → at k ≡ at k' → k ≡ k'
-    eight_apart k k' few few' e =
+    pub rows_apart : (k k' : ℕ) → k < n → k' < n → at k ≡ at k' → k ≡ k'
+    rows_apart k k' few few' e =
         let same : r + k ≡ r + k' =
         (row_apart w (r + k) (r + k') s0 s0 (omega arith) (omega arith) (omega (arith, places k few, places k' few'))).0
         in
         omega arith
 
-    pub divided_eight :
+    pub rows_divided :
         (m m' quotients : List Float) →
-        ((k : ℕ) → k < 8 →
+        ((k : ℕ) → k < n →
         get_or quotients k nan
         ≡ div binary64 (minus_products (row_at m (at k)) (row_at m (row_start w s + s0)) (s - s0) (get_or m (at k + (s - s0)) nan))
         (get_or m (row_start w s + s) nan)) →
-        Scattered 8 (λ k. at k + (s - s0)) (λ k. get_or quotients k nan) m m' → ColumnDivided w s0 s r (r + 8) m m'
-    divided_eight m m' quotients values scattered =
+        Scattered n (λ k. at k + (s - s0)) (λ k. get_or quotients k nan) m m' → ColumnDivided w s0 s r (r + n) m m'
+    rows_divided m m' quotients values scattered =
         record {
           kept = scattered.size;
           rows = λ r' from to.
               let row : r + (r' - r) ≡ r' = omega arith in
-              let few : r' - r < 8 = omega arith in
+              let few : r' - r < n = omega arith in
               let start : at (r' - r) ≡ row_start w r' + s0 = places (r' - r) few ∙ ap (λ q. row_start w q + s0) row in
               let place : at (r' - r) + (s - s0) ≡ row_start w r' + s = omega arith in
               (rw place at (scattered.inside (r' - r) few))
@@ -145,19 +124,16 @@ module _
     (room : row_start w (s + 1) ≤ length m) where
   pub diagonal_finished :
       (entered x : Float) (q : Pivot) → entered ≡ get_or saved (row_start w s + s) nan →
-      x ≡ minus_products (row_at m (row_start w s + s0)) (row_at m (row_start w s + s0)) (s - s0) (get_or m (row_start w s + s0 + (s - s0)) nan) →
+      x ≡ minus_products (row_at m (row_start w s + s0)) (row_at m (row_start w s + s0)) (s - s0) (get_or m (row_start w s + s) nan) →
       q ≡ judged x →
       Joined before (judgement (column_rules (c + s) entered x true) (exact_root q)) answer →
-      DiagonalFinished c w s0 s saved before m answer (set m (row_start w s + s0 + (s - s0)) (root_of q))
+      DiagonalFinished c w s0 s saved before m answer (set m (row_start w s + s) (root_of q))
   unfolding column_exact
   diagonal_finished entered x q own pivot judges joined =
-      let place : row_start w s + s0 + (s - s0) ≡ row_start w s + s = omega arith in
       let p : Float = less_panel w s0 m s s in
       let d : Float = root_of q in
-      let value : x ≡ p = (rw place at pivot) in
-      let is : q ≡ judged p = judges ∙ ap judged value in
-      rw place
-      (record {
+      let is : q ≡ judged p = judges ∙ ap judged pivot in
+      record {
         kept = length-set m (row_start w s + s) d;
         beyond = λ x far. get_or-set_other m (row_start w s + s) x d nan (λ z. omega (arith, row_next w s));
         stage = λ n a e limit high right here stage.
@@ -177,9 +153,9 @@ module _
             joined (judge_pivot n a) (exact_column n a) (c + s) first
             (ap (λ z. judgement (column_rules (c + s) entered x true) (exact_root z)) judges
             ∙ ap₂ (λ v z. judgement (column_rules (c + s) v z true) (exact_root (judged z))) (own ∙ saves.diagonal s narrow)
-            (value ∙ panel_pivot stage s left right narrow high here))
+            (pivot ∙ panel_pivot stage s left right narrow high here))
             ∙ ap (pivots_to n a) next;
-      })
+      }
 
 -- ---- the rows with the diagonals
 
@@ -323,7 +299,7 @@ entered_same {w = w} {h} tall same entered =
 
 pub panel_finished :
     {c w h s0 g : ℕ} {before answer : Judgement} {saved saved₁ m m₁ m₂ m₃ : List Float} → s0 + g ≤ w → w ≤ h → SameTo (row_start w h) saved saved₁ →
-    PanelUpdated 0 w h s0 g (λ q. row_at m (0 + row_start w q)) s0 m m₁ → TriangleFinished c w s0 (s0 + g) (s0 + g) saved₁ before m₁ answer m₂ →
+    PanelUpdated 0 w h s0 g (λ q. row_at m (row_start w q)) s0 m m₁ → TriangleFinished c w s0 (s0 + g) (s0 + g) saved₁ before m₁ answer m₂ →
     BelowFinished w s0 (s0 + g) (s0 + g) h m₂ m₃ → ColumnsFinished c w h s0 (s0 + g) saved before m answer m₃
 panel_finished {c} {w} {h} {s0} {g} {m = m} {m₁} {m₂} {m₃} wide tall same update triangle below =
     record {

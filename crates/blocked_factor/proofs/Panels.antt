@@ -5,62 +5,59 @@ use native.Mathlib.Omega.{arith}
 use native.Mathlib.Decide.{dec_lt}
 use mathlib.Core.Path.{◌≡◌, refl, sym, ap, ◌∙◌}
 use mathlib.Core.Logic.{◌≢◌}
-use mathlib.Core.Bool.{Bool}
 use mathlib.Core.List.{List}
-use lib.Dec.{T}
 use lib.ListN.{length, get_or, set}
 use lib.Ieee.{Float, nan}
-use Rattle.shape.specs.Bounds.{max_order}
 use Rattle.calls.specs.Arithmetic.{minus_products}
 use Rattle.calls.proofs.Columns.{products_same}
 use Rattle.kernels.specs.Kernels.{Filled, Scattered, row_at, lane_at}
 use Rattle.kernels.proofs.Grids.{lane_end}
 use Rattle.kernels.proofs.Parts.{filled_next, filled_same}
-use Rattle.blocked_factor.specs.BlockColumns.{row_start, LanesHold, Packed, InPanel, PanelUpdated, OwnColumns}
+use Rattle.blocked_factor.specs.BlockColumns.{row_start, LanesHold, Packed, InPanel, PanelUpdated}
 use Rattle.blocked_factor.proofs.BlockRows.{row_next, row_mono, row_lt, row_apart}
 
 -- ---- a row
 
 -- the entries of a row less their products, of which the other factors stand in the source's rows from `first` on
 pub entries_next :
-    (m m' : List Float) (start w first x y count t : ℕ) (v : Float) → x + count ≤ y → start + row_start w (first + t) + count ≤ y → y + t < length m →
-    Filled nan y t (λ u. minus_products (row_at m x) (row_at m (start + row_start w (first + u))) count (get_or m (y + u) nan)) m m' →
-    v ≡ minus_products (row_at m' x) (row_at m' (start + row_start w (first + t))) count (get_or m' (y + t) nan) →
-    Filled nan y (t + 1) (λ u. minus_products (row_at m x) (row_at m (start + row_start w (first + u))) count (get_or m (y + u) nan)) m (set m' (y + t) v)
-entries_next m m' start w first x y count t v hx hr room filled e =
-    let row : ℕ = start + row_start w (first + t) in
+    (m m' : List Float) (w first x y count t : ℕ) (v : Float) → x + count ≤ y → row_start w (first + t) + count ≤ y → y + t < length m →
+    Filled nan y t (λ u. minus_products (row_at m x) (row_at m (row_start w (first + u))) count (get_or m (y + u) nan)) m m' →
+    v ≡ minus_products (row_at m' x) (row_at m' (row_start w (first + t))) count (get_or m' (y + t) nan) →
+    Filled nan y (t + 1) (λ u. minus_products (row_at m x) (row_at m (row_start w (first + u))) count (get_or m (y + u) nan)) m (set m' (y + t) v)
+entries_next m m' w first x y count t v hx hr room filled e =
+    let row : ℕ = row_start w (first + t) in
     let new : v ≡ minus_products (row_at m x) (row_at m row) count (get_or m (y + t) nan) =
     e
     ∙ products_same (row_at m' x) (row_at m x) (row_at m' row) (row_at m row) count (get_or m' (y + t) nan)
     (λ k few. filled.before (x + k) (omega arith)) (λ k few. filled.before (row + k) (omega arith))
     ∙ ap (minus_products (row_at m x) (row_at m row) count) (filled.after (y + t) (omega arith))
     in
-    filled_next nan y (λ u. minus_products (row_at m x) (row_at m (start + row_start w (first + u))) count (get_or m (y + u) nan)) m t m' v room filled new
+    filled_next nan y (λ u. minus_products (row_at m x) (row_at m (row_start w (first + u))) count (get_or m (y + u) nan)) m t m' v room filled new
 
 -- by a packed panel
 pub filled_packed :
-    (m m' panel : List Float) (start w first x y len count : ℕ) → LanesHold panel m start w first count len →
+    (m m' panel : List Float) (w first x y len count : ℕ) → LanesHold panel m w first count len →
     Filled nan y len (λ t. minus_products (row_at m x) (lane_at 16 panel t) count (get_or m (y + t) nan)) m m' →
-    Filled nan y len (λ t. minus_products (row_at m x) (row_at m (start + row_start w (first + t))) count (get_or m (y + t) nan)) m m'
-filled_packed m m' panel start w first x y len count packed filled =
+    Filled nan y len (λ t. minus_products (row_at m x) (row_at m (row_start w (first + t))) count (get_or m (y + t) nan)) m m'
+filled_packed m m' panel w first x y len count packed filled =
     filled_same nan y len (λ t. minus_products (row_at m x) (lane_at 16 panel t) count (get_or m (y + t) nan))
-    (λ t. minus_products (row_at m x) (row_at m (start + row_start w (first + t))) count (get_or m (y + t) nan)) m m'
+    (λ t. minus_products (row_at m x) (row_at m (row_start w (first + t))) count (get_or m (y + t) nan)) m m'
     (λ t h.
-    products_same (row_at m x) (row_at m x) (lane_at 16 panel t) (row_at m (start + row_start w (first + t))) count (get_or m (y + t) nan)
+    products_same (row_at m x) (row_at m x) (lane_at 16 panel t) (row_at m (row_start w (first + t))) count (get_or m (y + t) nan)
     (λ k below. refl) (λ k below. packed t k h below))
     filled
 
 -- ---- packing a panel, row by row
 
-pub packed_none : (panel m : List Float) (at lanes start w first count : ℕ) → Packed panel panel at lanes m start w first count 0
-packed_none panel m at lanes start w first count =
+pub packed_none : (panel m : List Float) (at lanes w first count : ℕ) → Packed panel panel at lanes m w first count 0
+packed_none panel m at lanes w first count =
     record { size = refl; lane = λ t k h few. absurd (omega arith); before = λ p h. refl }
 
 pub packed_next :
-    (panel₀ panel panel' m : List Float) (at lanes start w first count t : ℕ) → Packed panel₀ panel at lanes m start w first count t → t < lanes →
-    Scattered count (λ k. at + lanes * k + t) (row_at m (start + row_start w (first + t))) panel panel' →
-    Packed panel₀ panel' at lanes m start w first count (t + 1)
-packed_next panel₀ panel panel' m at lanes start w first count t before h lane =
+    (panel₀ panel panel' m : List Float) (at lanes w first count t : ℕ) → Packed panel₀ panel at lanes m w first count t → t < lanes →
+    Scattered count (λ k. at + lanes * k + t) (row_at m (row_start w (first + t))) panel panel' →
+    Packed panel₀ panel' at lanes m w first count (t + 1)
+packed_next panel₀ panel panel' m at lanes w first count t before h lane =
     record {
       size = lane.size ∙ before.size;
       lane = λ u k p few.
@@ -85,48 +82,30 @@ packed_next panel₀ panel panel' m at lanes start w first count t before h lane
 
 -- where the panel has 16 lanes from its start on
 pub lanes_hold :
-    (panel panel' m : List Float) (start w first count g : ℕ) → Packed panel panel' 0 16 m start w first count g → LanesHold panel' m start w first count g
-lanes_hold panel panel' m start w first count g packed t k h few =
+    (panel panel' m : List Float) (w first count g : ℕ) → Packed panel panel' 0 16 m w first count g → LanesHold panel' m w first count g
+lanes_hold panel panel' m w first count g packed t k h few =
     let at : 16 * k + t ≡ 0 + 16 * k + t = omega arith in
     ap (λ p. get_or panel' p nan) at ∙ packed.lane t k h few
 
 -- ---- the products with a block column's own earlier columns
 
-module _ {len at w h s0 g : ℕ} (own : OwnColumns len at w h s0 g) where
-  -- those of an entry are of values before its row's entries in the panel
-  own_before : (r s : ℕ) → s0 ≤ s → s ≤ r → r < h → at + row_start w s + s0 ≤ at + row_start w r + s0
-  own_before r s low lower high = omega (arith, row_mono w s r lower)
+-- g columns from s0 on of a block column of w columns and h rows, in a memory of `len` values
+pub record OwnColumns (len w h s0 g : ℕ) : Type 0 where
+  pub wide : s0 + g ≤ w
+  pub tall : w ≤ h
+  pub room : row_start w h ≤ len
 
-  -- and are no entries of the panel
+module _ {len w h s0 g : ℕ} (own : OwnColumns len w h s0 g) where
+  -- those of an entry are no entries of the panel
   own_apart :
-      (r k : ℕ) → s0 ≤ r → r < h → k < s0 → (r' s' : ℕ) → InPanel h s0 g r' s' → at + row_start w r + k ≢ at + row_start w r' + s'
+      (r k : ℕ) → s0 ≤ r → r < h → k < s0 → (r' s' : ℕ) → InPanel h s0 g r' s' → row_start w r + k ≢ 0 + row_start w r' + s'
   own_apart r k low high few r' s' there e =
       let same : (r ≡ r') × (k ≡ s') = row_apart w r r' k s' (omega (arith, own.wide)) (omega (arith, own.wide)) (omega arith) in
       omega (arith, there.left)
 
   -- the panel's rows are within the memory
-  row_room : (r : ℕ) → s0 ≤ r → r < h → at + row_start w r + s0 + min g (r + 1 - s0) ≤ len
+  pub row_room : (r : ℕ) → s0 ≤ r → r < h → row_start w r + s0 + min g (r + 1 - s0) ≤ len
   row_room r low high = omega (arith, row_next w r, row_mono w (r + 1) h (omega arith), own.wide, own.room)
-
-  -- where the first row starts
-  pub first_fits : (at + row_start w s0 ≤ len) × (s0 ≤ max_order) × (s0 ≤ h)
-  first_fits =
-      let high : s0 ≤ h = omega (arith, own.wide, own.tall) in
-      omega (arith, own, row_mono w s0 h high)
-
-  -- and the one after row r
-  pub next_fits :
-      (r x : ℕ) → r < h → x ≡ at + row_start w r → (x + min (r + 1) w ≡ at + row_start w (r + 1)) × (at + row_start w (r + 1) ≤ len)
-  next_fits r x high ex = omega (arith, own, row_next w r, row_mono w (r + 1) h (omega arith))
-
-  -- what `pack` asks
-  pub pack_ready :
-      (spare : ℕ) → g ≤ 16 → 16 * s0 ≤ spare →
-      ((0 + 16 * s0 ≤ spare) × (g ≤ 16) × (s0 + g ≤ max_order + 1)) × ((t : ℕ) → t < g → at + row_start w (s0 + t) + s0 ≤ len)
-  pack_ready spare narrow room = (
-    omega (arith, own.order, own.wide, own.tall),
-    (λ t few. omega (arith, row_room (s0 + t) (omega arith) (omega (arith, own.wide, own.tall)))),
-  )
 
 -- ---- a panel, row by row
 
@@ -135,94 +114,76 @@ pub panel_none :
 panel_none none = record { kept = refl; inside = λ r s e. absurd (none r s e); outside = λ p h. refl }
 
 module _
-    {at w h s0 g : ℕ} {m m₁ : List Float} (own : OwnColumns (length m) at w h s0 g) (r : ℕ) (low : s0 ≤ r)
-    (high : r < h) (before : PanelUpdated at w r s0 g (λ q. row_at m (at + row_start w q)) s0 m m₁) where
+    {w h s0 g : ℕ} {m m₁ : List Float} (own : OwnColumns (length m) w h s0 g) (r : ℕ) (low : s0 ≤ r)
+    (high : r < h) (before : PanelUpdated 0 w r s0 g (λ q. row_at m (row_start w q)) s0 m m₁) where
   abbrev x : ℕ → ℕ → Float
-  x = λ q. row_at m (at + row_start w q)
+  x = λ q. row_at m (row_start w q)
 
   -- the source is as it was
-  own_kept : (r' k : ℕ) → s0 ≤ r' → r' < h → k < s0 → row_at m₁ (at + row_start w r') k ≡ x r' k
+  own_kept : (r' k : ℕ) → s0 ≤ r' → r' < h → k < s0 → row_at m₁ (row_start w r') k ≡ x r' k
   own_kept r' k l q few =
-      before.outside (at + row_start w (r') + k)
+      before.outside (row_start w r' + k)
       (λ r'' s'' e. own_apart own r' k l q few r'' s'' (record { lower = e.lower; row = omega (arith, e.row); left = e.left; right = e.right }))
 
   -- and so is the row
-  row_kept : (s : ℕ) → s ≤ r → s < s0 + g → get_or m₁ (at + row_start w r + s) nan ≡ get_or m (at + row_start w r + s) nan
+  row_kept : (s : ℕ) → s ≤ r → s < s0 + g → get_or m₁ (row_start w r + s) nan ≡ get_or m (row_start w r + s) nan
   row_kept s lower right =
-      before.outside (at + row_start w r + s)
+      before.outside (row_start w r + s)
       (λ r' s' e p.
       let same : (r ≡ r') × (s ≡ s') =
       row_apart w r r' s s' (omega (arith, own.wide)) (omega (arith, own.wide, e.lower, e.right)) (omega arith)
       in
       omega (arith, e.row))
 
-  -- what `update_row` asks
-  pub row_ready :
-      (panel : List Float) (packed : Bool) (l : ℕ) → g ≤ 16 →
-      (T packed → (16 * s0 ≤ length panel) × LanesHold panel m at w s0 s0 g) → l ≡ min g (r + 1 - s0) →
-      ((at + row_start w r + s0 ≤ at + row_start w r + s0) × (at + row_start w r + s0 + l ≤ length m₁) × (s0 + l ≤ max_order + 1) × (l ≤ 16))
-      × (((t : ℕ) → t < l → at + row_start w (s0 + t) + s0 ≤ at + row_start w r + s0)
-      × (T packed → (16 * s0 ≤ length panel) × LanesHold panel m₁ at w s0 s0 l))
-  row_ready panel packed l narrow ready el = (
-    omega (arith, row_room own r low high, before.kept, own.order),
-    (
-      (λ t few. own_before own r (s0 + t) (omega arith) (omega arith) high),
-      (λ it. (
-        (ready it).0,
-        λ t k few p. (ready it).1 t k (omega arith) p ∙ sym (own_kept (s0 + t) k (omega arith) (omega (arith, own.wide, own.tall)) p),
-      )),
-    ),
-  )
+  -- a packed panel holds what the row's products need
+  pub lanes_kept : (panel : List Float) → LanesHold panel m w s0 s0 g → LanesHold panel m₁ w s0 s0 (min g (r + 1 - s0))
+  lanes_kept panel packed t k few p = packed t k (omega arith) p ∙ sym (own_kept (s0 + t) k (omega arith) (omega (arith, own.wide, own.tall)) p)
 
   module _
       {m₂ : List Float}
       (filled :
-      Filled nan (at + row_start w r + s0) (min g (r + 1 - s0))
-      (λ t.
-      minus_products (row_at m₁ (at + row_start w r)) (row_at m₁ (at + row_start w (s0 + t))) s0
-      (get_or m₁ (at + row_start w r + s0 + t) nan))
-      m₁ m₂) where
+      Filled nan (row_start w r + s0) (min g (r + 1 - s0))
+      (λ t. minus_products (row_at m₁ (row_start w r)) (row_at m₁ (row_start w (s0 + t))) s0 (get_or m₁ (row_start w r + s0 + t) nan)) m₁ m₂) where
     entry_updated :
-        (s : ℕ) → s ≤ r → s0 ≤ s → s < s0 + g →
-        get_or m₂ (at + row_start w r + s) nan ≡ minus_products (x r) (x s) s0 (get_or m (at + row_start w r + s) nan)
+        (s : ℕ) → s ≤ r → s0 ≤ s → s < s0 + g → get_or m₂ (row_start w r + s) nan ≡ minus_products (x r) (x s) s0 (get_or m (row_start w r + s) nan)
     entry_updated s lower left right =
-        let place : at + row_start w r + s0 + (s - s0) ≡ at + row_start w r + s = omega arith in
+        let place : row_start w r + s0 + (s - s0) ≡ row_start w r + s = omega arith in
         let row : s0 + (s - s0) ≡ s = omega arith in
-        let new : get_or m₂ (at + row_start w r + s0 + (s - s0)) nan
-        ≡ minus_products (row_at m₁ (at + row_start w r)) (row_at m₁ (at + row_start w (s0 + (s - s0)))) s0
-        (get_or m₁ (at + row_start w r + s0 + (s - s0)) nan) =
+        let new : get_or m₂ (row_start w r + s0 + (s - s0)) nan
+        ≡ minus_products (row_at m₁ (row_start w r)) (row_at m₁ (row_start w (s0 + (s - s0)))) s0 (get_or m₁ (row_start w r + s0 + (s - s0)) nan) =
         filled.inside (s - s0) (omega arith)
         in
         (rw (place, row) at new)
-        ∙ products_same (row_at m₁ (at + row_start w r)) (x r) (row_at m₁ (at + row_start w s)) (x s) s0
-        (get_or m₁ (at + row_start w r + s) nan) (λ k few. own_kept r k low high few) (λ k few. own_kept s k left (omega arith) few)
+        ∙ products_same (row_at m₁ (row_start w r)) (x r) (row_at m₁ (row_start w s)) (x s) s0 (get_or m₁ (row_start w r + s) nan)
+        (λ k few. own_kept r k low high few) (λ k few. own_kept s k left (omega arith) few)
         ∙ ap (minus_products (x r) (x s) s0) (row_kept s lower right)
 
-    pub panel_next : PanelUpdated at w (r + 1) s0 g x s0 m m₂
+    pub panel_next : PanelUpdated 0 w (r + 1) s0 g x s0 m m₂
     panel_next =
         record {
           kept = filled.size ∙ before.kept;
           inside = λ r' s' e.
+              let here : 0 + row_start w r' + s' ≡ row_start w r' + s' = omega arith in
               elim (dec_lt r' r) [
                 | yes p ↦
-                    filled.before (at + row_start w r' + s') (omega (arith, row_lt w r' r s' p (omega (arith, own.wide, e.lower, e.right))))
+                    filled.before (0 + row_start w r' + s') (omega (arith, row_lt w r' r s' p (omega (arith, own.wide, e.lower, e.right))))
                     ∙ before.inside r' s' (record { lower = e.lower; row = p; left = e.left; right = e.right })
                 | no p ↦
                     let same : r' ≡ r = omega (arith, e.row) in
-                    rw same (entry_updated s' (omega (arith, e.lower)) e.left e.right)
+                    rw (here, same) (entry_updated s' (omega (arith, e.lower)) e.left e.right)
               ];
           outside = λ p none.
-              outside_row p none (dec_lt p (at + row_start w r + s0)) (dec_lt p (at + row_start w r + s0 + min g (r + 1 - s0)))
+              outside_row p none (dec_lt p (row_start w r + s0)) (dec_lt p (row_start w r + s0 + min g (r + 1 - s0)))
               ∙ before.outside p (λ r' s' e. none r' s' (record { lower = e.lower; row = omega (arith, e.row); left = e.left; right = e.right }));
         }
       where
         outside_row :
-            (p : ℕ) → ((r' s' : ℕ) → InPanel (r + 1) s0 g r' s' → p ≢ at + row_start w r' + s') → Dec (p < at + row_start w r + s0) →
-            Dec (p < at + row_start w r + s0 + min g (r + 1 - s0)) → get_or m₂ p nan ≡ get_or m₁ p nan
+            (p : ℕ) → ((r' s' : ℕ) → InPanel (r + 1) s0 g r' s' → p ≢ 0 + row_start w r' + s') → Dec (p < row_start w r + s0) →
+            Dec (p < row_start w r + s0 + min g (r + 1 - s0)) → get_or m₂ p nan ≡ get_or m₁ p nan
         outside_row p none (yes q) d = filled.before p q
         outside_row p none (no q) (no z) = filled.after p (omega arith)
         outside_row p none (no q) (yes z) =
-            let s : ℕ = p - (at + row_start w r) in
+            let s : ℕ = p - row_start w r in
             let here : InPanel (r + 1) s0 g r s = record { lower = omega arith; row = omega arith; left = omega arith; right = omega arith } in
             absurd (none r s here (omega arith))
 

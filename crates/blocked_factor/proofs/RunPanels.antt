@@ -1,5 +1,6 @@
 -- A panel packed from a run, block column by block column, and the target's columns less the run's products, rows by rows. Assumes nothing.
-use Prim.Native.Nat.{ℕ, ◌+◌, ◌-◌, ◌*◌, ◌≤◌, ◌<◌, min}
+use Prim.Native.Nat.{ℕ, ◌+◌, ◌-◌, ◌*◌, ◌/◌, ◌%◌, ◌≤◌, ◌<◌, min}
+use native.Mathlib.Nat.{div-add-mod, mul-add-mod_self_left, zero-mod, mod-eq-sub-mod, mod-eq_of_lt}
 use native.Mathlib.Omega.{arith}
 use native.Mathlib.Decide.{dec_lt}
 use mathlib.Core.Path.{◌≡◌, sym, ap, ◌∙◌}
@@ -32,9 +33,10 @@ module _ {start h b corner count i g len k : ℕ} (so : RowsBelow start h b corn
       omega (arith, inside, so.size, ap (λ z. place_in_block b z 0) row)
 
   pub pack_next :
-      (lanes : ℕ) (m panel panel' : List Float) → g ≤ lanes → RunPacked panel lanes m start h b i k g →
-      Packed panel panel' (lanes * k) lanes m (start + block_start h k) b (i - k) b g → RunPacked panel' lanes m start h b i (k + b) g
-  pack_next lanes m panel panel' narrow before packed t q few low =
+      (lanes : ℕ) (m part panel panel' : List Float) → g ≤ lanes → length m ≡ len →
+      ((p : ℕ) → start + block_start h k + p < len → get_or part p nan ≡ get_or m (start + block_start h k + p) nan) →
+      RunPacked panel lanes m start h b i k g → Packed panel panel' (lanes * k) lanes part b (i - k) b g → RunPacked panel' lanes m start h b i (k + b) g
+  pack_next lanes m part panel panel' narrow size same before packed t q few low =
       elim (dec_lt q k) [
         | yes p ↦ packed.before (lanes * q + t) (omega (arith, lane_end lanes q k p)) ∙ before t q few p
         | no p ↦ here t (q - k) q few (omega arith) (omega arith)
@@ -48,12 +50,31 @@ module _ {start h b corner count i g len k : ℕ} (so : RowsBelow start h b corn
           let entry : blocked_place h b (i + t + 0) (k + r) ≡ row_place h b (i + t) k + 0 * b + r =
           row_entry h b k first (i + t) 0 r (omega (arith, block_le, so.above)) (omega (arith, so.inside)) low in
           let entry' : blocked_place h b (i + t) (k + r) ≡ row_place h b (i + t) k + 0 * b + r = rw none at entry in
-          let place : start + block_start h k + row_start b (i - k + t) + r ≡ start + blocked_place h b (i + t) (k + r) =
+          let place : start + block_start h k + (row_start b (i - k + t) + r) ≡ start + blocked_place h b (i + t) (k + r) =
           omega (arith, entry', ap (λ z. place_in_block b z 0) row) in
           rw (sym e)
-          (ap (λ z. get_or panel' z nan) at ∙ packed.lane t r few low ∙ ap (λ z. get_or m z nan) place)
+          (ap (λ z. get_or panel' z nan) at
+          ∙ packed.lane t r few low
+          ∙ same (row_start b (i - k + t) + r) (omega (arith, pack_room t few))
+          ∙ ap (λ z. get_or m z nan) place)
 
 -- ---- rows of the target
+
+-- whole tiles of t rows: n − n % t rows are some of them, and so are those that one leaves; the last one leaves none
+pub tiles_first : (n t : ℕ) → (n - n % t) % t ≡ 0
+tiles_first n t =
+    let e : n - n % t ≡ t * (n / t) + 0 = omega (arith, div-add-mod n t) in
+    rw e (mul-add-mod_self_left t (n / t) 0 ∙ zero-mod t)
+
+pub tiles_next : (n t : ℕ) → t ≤ n → n % t ≡ 0 → (n - t) % t ≡ 0
+tiles_next n t fit e = sym (mod-eq-sub-mod fit) ∙ e
+
+pub tiles_last : (n t : ℕ) → 0 < n → n ≤ t → n % t ≡ 0 → n ≡ t
+tiles_last n t some fit e =
+    elim (dec_lt n t) [
+      | yes p ↦ absurd (omega (arith, mod-eq_of_lt p))
+      | no p ↦ omega arith
+    ]
 
 rows_under : (w r t : ℕ) → w ≤ r → row_start w (r + t) ≡ row_start w r + t * w
 rows_under w r t low = go (r - w) (omega arith)
@@ -71,8 +92,8 @@ pub record RowsAt (w s0 g r size stride len : ℕ) : Type 0 where
 pub tile_rows : (w s0 g r size : ℕ) → s0 + g ≤ w → w ≤ r → RowsAt w s0 g r size w g
 tile_rows w s0 g r size wide low = record { place = λ t few. rows_under w r t low; columns = λ t few. omega arith }
 
-pub single_row : (w s0 g r len : ℕ) → len ≡ min g (r + 1 - s0) → RowsAt w s0 g r 1 len len
-single_row w s0 g r len e =
+pub single_row : (w s0 g r stride len : ℕ) → len ≡ min g (r + 1 - s0) → RowsAt w s0 g r 1 stride len
+single_row w s0 g r stride len e =
     record {
       place = λ t few.
           let first : t ≡ 0 = omega arith in
@@ -111,13 +132,9 @@ module _ {size at w rows start h b corner count : ℕ} (so : RunBefore size at w
       before.outside (start + blocked_place h b (h - rows + q) k)
       (λ r' s' e z. omega (arith, so.before (h - rows + q) k (omega (arith, so.above)) (omega (arith, so.above)) few))
 
-  -- where the first row after row r is
-  pub next_row : (r s0 : ℕ) → s0 ≤ r → r < rows → (row_start w (r + 1) ≡ row_start w r + min (r + 1) w) × (at + row_start w (r + 1) + s0 ≤ size + rows)
-  next_row r s0 low high = omega (arith, row_next w r, row_mono w (r + 1) rows (omega arith), so.room)
-
-  pub next_tile :
-      (r tile s0 : ℕ) → w ≤ r → s0 ≤ r → r + tile ≤ rows → (row_start w (r + tile) ≡ row_start w r + tile * w) × (at + row_start w (r + tile) + s0 ≤ size + rows)
-  next_tile r tile s0 under low high = omega (arith, rows_under w r tile under, row_mono w (r + tile) rows (omega arith), so.room)
+  -- where row r is
+  pub row_high : (r s0 : ℕ) → r < rows → at + s0 + row_start w r ≤ size + s0
+  row_high r s0 high = omega (arith, row_mono w r rows (omega arith), so.room)
 
 module _
     {at w rows start h b corner count s0 g : ℕ} {m m₁ : List Float} (panel : List Float) (lanes : ℕ)

@@ -124,31 +124,14 @@ grid_same f f' same so =
     record { size = so.size; inside = λ r s h p. so.inside r s h p ∙ same r s h p; outside = so.outside }
 
 pub grid_reduced :
-    {y stride rows lanes len : ℕ} (x y' : ℕ → ℕ → Float) (count : ℕ) (tile reduced m : List Float) {m' : List Float} → len ≤ lanes →
-    TileIs rows lanes len (λ r s. get_or m (y + r * stride + s) nan) tile →
-    TileIs rows lanes lanes (λ r s. minus_products (x r) (y' s) count (tile_at lanes tile r s)) reduced →
-    GridFilled y stride rows len (λ r s. tile_at lanes reduced r s) m m' →
+    {y stride rows lanes len : ℕ} (x y' : ℕ → ℕ → Float) (count : ℕ) (tile reduced : List (List Float)) (m : List Float) {m' : List Float} → len ≤ lanes →
+    TileIs rows len (λ r s. get_or m (y + r * stride + s) nan) tile →
+    TileIs rows lanes (λ r s. minus_products (x r) (y' s) count (tile_at tile r s)) reduced →
+    GridFilled y stride rows len (λ r s. tile_at reduced r s) m m' →
     GridFilled y stride rows len (λ r s. minus_products (x r) (y' s) count (get_or m (y + r * stride + s) nan)) m m'
 grid_reduced {lanes = lanes} x y' count tile reduced m narrow loaded worked stored =
-    grid_same (λ r s. tile_at lanes reduced r s) _
+    grid_same (λ r s. tile_at reduced r s) _
     (λ r s h p. worked r s h (omega arith) ∙ ap (minus_products (x r) (y' s) count) (loaded r s h p)) stored
-
--- a tile of one row stands the same in every number of lanes
-one_row : (lanes lanes' r s : ℕ) (t : List Float) → r < 1 → tile_at lanes t r s ≡ tile_at lanes' t r s
-one_row lanes lanes' r s t h =
-    let first : r ≡ 0 = omega arith in
-    let at : 0 * lanes + s ≡ 0 * lanes' + s = omega arith in
-    rw first (ap (λ p. get_or t p nan) at)
-
-pub row_reduced :
-    (y len lanes lanes' : ℕ) (x y' : ℕ → ℕ → Float) (count : ℕ) (tile reduced m m' : List Float) → len ≤ lanes' →
-    TileIs 1 lanes len (λ r s. get_or m (y + r * len + s) nan) tile →
-    TileIs 1 lanes' lanes' (λ r s. minus_products (x r) (y' s) count (tile_at lanes' tile r s)) reduced →
-    GridFilled y len 1 len (λ r s. tile_at lanes reduced r s) m m' →
-    GridFilled y len 1 len (λ r s. minus_products (x r) (y' s) count (get_or m (y + r * len + s) nan)) m m'
-row_reduced y len lanes lanes' x y' count tile reduced m m' narrow loaded worked stored =
-    grid_reduced x y' count tile reduced m narrow (λ r s h p. one_row lanes' lanes r s tile h ∙ loaded r s h p) worked
-    (grid_same (λ r s. tile_at lanes reduced r s) (λ r s. tile_at lanes' reduced r s) (λ r s h p. one_row lanes lanes' r s reduced h) stored)
 
 -- one row has room where its places have
 pub row_room : (y len size : ℕ) → y + len ≤ size → (r : ℕ) → r < 1 → y + r * len + len ≤ size

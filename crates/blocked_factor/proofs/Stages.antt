@@ -138,7 +138,7 @@ module _ {n : ℕ} {a : Triangle} {c w s0 e : ℕ} {limit : ℕ → ℕ} {m : Li
 
 pub stage_updated :
     (n : ℕ) (a : Triangle) (c w h s0 g : ℕ) (m m' : List Float) → c + h ≡ n → s0 + g ≤ w → w ≤ h → Stage n a c w s0 s0 (all_rows s0) m →
-    PanelUpdated 0 w h s0 g (λ q. row_at m (0 + row_start w q)) s0 m m' → Stage n a c w s0 (s0 + g) (all_rows s0) m'
+    PanelUpdated 0 w h s0 g (λ q. row_at m (row_start w q)) s0 m m' → Stage n a c w s0 (s0 + g) (all_rows s0) m'
 stage_updated n a c w h s0 g m m' order wide tall stage update =
     record {
       finished = λ r s lower high narrow before.
@@ -146,7 +146,7 @@ stage_updated n a c w h s0 g m m' order wide tall stage update =
       started = λ r s lower high narrow low up.
           let place : 0 + row_start w r + s ≡ row_start w r + s = omega arith in
           (rw place at (update.inside r s (record { lower = lower; row = omega arith; left = low; right = up })))
-          ∙ products_same (row_at m (0 + row_start w r)) (λ i. factor_entry n a (c + r) (c + i)) (row_at m (0 + row_start w s))
+          ∙ products_same (row_at m (row_start w r)) (λ i. factor_entry n a (c + r) (c + i)) (row_at m (row_start w s))
           (λ i. factor_entry n a (c + s) (c + i)) s0 (get_or m (row_start w r + s) nan) (λ k few. known r k high (omega arith) few)
           (λ k few. known s k (omega arith) low few)
           ∙ ap (minus_products (λ i. factor_entry n a (c + r) (c + i)) (λ i. factor_entry n a (c + s) (c + i)) s0)
@@ -163,10 +163,9 @@ stage_updated n a c w h s0 g m m' order wide tall stage update =
         let same : s ≡ s' = (row_apart w r r' s s' (omega arith) (omega (arith, there.lower, there.right)) (omega arith)).1 in
         out (omega (arith, there.left), omega (arith, there.right)))
 
-    known : (r k : ℕ) → c + r < n → s0 ≤ r → k < s0 → row_at m (0 + row_start w r) k ≡ factor_entry n a (c + r) (c + k)
+    known : (r k : ℕ) → c + r < n → s0 ≤ r → k < s0 → row_at m (row_start w r) k ≡ factor_entry n a (c + r) (c + k)
     known r k high low few =
-        let place : 0 + row_start w r + k ≡ row_start w r + k = omega arith in
-        rw place (stage.finished r k (omega arith) high (omega arith) few)
+        stage.finished r k (omega arith) high (omega arith) few
 
 -- a panel with all rows finished
 pub stage_all :

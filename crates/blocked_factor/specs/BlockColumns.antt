@@ -7,7 +7,6 @@ use Rattle.binary64.specs.Kinds.{finite}
 use Rattle.binary64.specs.Root.{root}
 use Rattle.binary64.specs.declared.Pivot.{Pivot}
 use Rattle.binary64.specs.declared.Pivot.TheVariants.{Root, Refused}
-use Rattle.shape.specs.Bounds.{max_order}
 use Rattle.shape.specs.Places.{place_in_block}
 use Rattle.calls.specs.Sequences.{tabulate, all}
 use Rattle.calls.specs.Arithmetic.{minus_products}
@@ -20,15 +19,14 @@ row_start w r = place_in_block w r 0
 pub record SameTo (count : ℕ) (m m' : List Float) : Type 0 where
   pub at : (p : ℕ) → p < count → get_or m' p nan ≡ get_or m p nan
 
--- the first g of 16 lanes of a panel hold rows of the block column at `start`, from row `first` on
-abbrev pub LanesHold : List Float → List Float → ℕ → ℕ → ℕ → ℕ → ℕ → Type 0
-LanesHold panel m start w first count g =
-    (t k : ℕ) → t < g → k < count → lane_at 16 panel t k ≡ row_at m (start + row_start w (first + t)) k
+-- the first g of 16 lanes of a panel hold rows of the block column at place 0, from row `first` on
+abbrev pub LanesHold : List Float → List Float → ℕ → ℕ → ℕ → ℕ → Type 0
+LanesHold panel m w first count g = (t k : ℕ) → t < g → k < count → lane_at 16 panel t k ≡ row_at m (row_start w (first + t)) k
 
 -- a panel has got those rows as its first g lanes, from place `at` on, and is as it was before that place
-pub record Packed (panel panel' : List Float) (at lanes : ℕ) (m : List Float) (start w first count g : ℕ) : Type 0 where
+pub record Packed (panel panel' : List Float) (at lanes : ℕ) (m : List Float) (w first count g : ℕ) : Type 0 where
   pub size : length panel' ≡ length panel
-  pub lane : (t k : ℕ) → t < g → k < count → get_or panel' (at + lanes * k + t) nan ≡ row_at m (start + row_start w (first + t)) k
+  pub lane : (t k : ℕ) → t < g → k < count → get_or panel' (at + lanes * k + t) nan ≡ row_at m (row_start w (first + t)) k
   pub before : (p : ℕ) → p < at → get_or panel' p nan ≡ get_or panel p nan
 
 -- column s of row r is one of g columns from s0 on, of the first h rows
@@ -46,13 +44,6 @@ pub record PanelUpdated (at w h s0 g : ℕ) (x : ℕ → ℕ → Float) (count :
       get_or m' (at + row_start w r + s) nan ≡ minus_products (x r) (x s) count (get_or m (at + row_start w r + s) nan)
   pub outside :
       (p : ℕ) → ((r s : ℕ) → InPanel h s0 g r s → p ≢ at + row_start w r + s) → get_or m' p nan ≡ get_or m p nan
-
--- g columns from s0 on of a block column of w columns and h rows, in a memory of `len` values
-pub record OwnColumns (len at w h s0 g : ℕ) : Type 0 where
-  pub order : h ≤ max_order
-  pub wide : s0 + g ≤ w
-  pub tall : w ≤ h
-  pub room : at + row_start w h ≤ len
 
 -- From here on the block column starts at place 0. Entry (r, s) less its products with columns s0 .. s − 1.
 abbrev pub less_panel : ℕ → ℕ → List Float → ℕ → ℕ → Float

@@ -30,9 +30,3 @@ pub record RunBefore (len at w rows start h b corner count : ℕ) : Type 0 where
   pub tall : w ≤ rows
   pub room : at + row_start w rows ≤ len
   pub before : (i k : ℕ) → count ≤ i → i < h → k < count → start + blocked_place h b i k < at
-
--- g columns from s0 on, as many as a tile holds
-pub record PanelAt (w s0 g : ℕ) : Type 0 where
-  pub some : 0 < g
-  pub few : g ≤ 16
-  pub wide : s0 + g ≤ w

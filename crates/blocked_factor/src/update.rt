@@ -1,141 +1,101 @@
-// A panel of a block column: up to 16 of its columns, from whose entries the products of the block column's own earlier columns are subtracted.
-ghost use Rattle.std.specs.Prelude.{ℕ, ◌+◌, ◌-◌, ◌*◌, ◌≤◌, ◌<◌, T, length, get_or};
+// A panel of a block column less the products of the block column's own earlier columns. The memory begins where the block column does.
+ghost use Rattle.std.specs.Prelude.{ℕ, ◌+◌, ◌-◌, ◌*◌, ◌≤◌, ◌<◌, length, get_or, min};
+ghost use Rattle.std.specs.Option.{ForSome};
 ghost use Rattle.std.specs.Float.{nan};
-ghost use Rattle.shape.specs.Bounds.{max_order};
 ghost use Rattle.calls.specs.Arithmetic.{minus_products};
 ghost use Rattle.kernels.specs.Kernels.{Filled, row_at};
-ghost use Rattle.blocked_factor.specs.BlockColumns.{row_start, LanesHold, Packed, PanelUpdated, OwnColumns};
+ghost use Rattle.blocked_factor.specs.BlockColumns.{row_start, LanesHold, Packed, PanelUpdated};
 
-use kernels::{minus_products, pack_lane, update_part16, update16};
-use shape::{Shape, least};
+use crate::block_column::{BlockColumn, Panel};
+use kernels::{minus_products, pack_lane, update, update_part};
 
-// Where a block column starts in a memory, its columns and its rows.
-#[derive(Clone, Copy)]
-pub struct BlockColumn {
-    pub start: usize,
-    pub width: usize,
-    pub rows: usize,
-}
-
-// The entries from place y on, each less its products with a row of the source: the first is row `first`. The values from place x on are
-// the other factors.
-fn update_entries(
-    m: &mut [f64],
-    source: BlockColumn,
-    first: usize,
-    x: usize,
-    y: usize,
-    len: usize,
-    count: usize,
-)
-    requires count_bound { (x + count ≤ y) × (y + len ≤ length m.old) × (first + len ≤ max_order + 1) }
-    requires by_index { (t : ℕ) → t < len → source.start + row_start source.width (first + t) + count ≤ y }
-    ensures { Filled nan y len
-        (λ t.
-        minus_products (row_at m.old x) (row_at m.old (source.start + row_start source.width (first + t))) count
-        (get_or m.old (y + t) nan))
-        m.old m.new }
-{
-    let start = source.start;
-    let width = source.width;
-    let mut t = 0;
-    while t < len {
-        let row = start + Shape::place_in_block(width, first + t, 0);
-        let value = minus_products(m, x, row, count, m[y + t]);
-        m[y + t] = value;
-        t += 1;
-    }
-}
-
-// The g rows of the source from row `first` on, as the lanes of a panel, from its place `at` on.
-pub fn pack(
-    panel: &mut [f64],
-    at: usize,
-    lanes: usize,
-    m: &[f64],
-    source: BlockColumn,
-    first: usize,
-    g: usize,
-    count: usize,
-)
-    requires count_in_bounds { (at + lanes * count ≤ length panel.old) × (g ≤ lanes) × (first + g ≤ max_order + 1) }
-    requires by_index { (t : ℕ) → t < g → source.start + row_start source.width (first + t) + count ≤ length m.now }
-    ensures { Packed panel.old panel.new at lanes m.now source.start source.width first count g }
-{
-    let start = source.start;
-    let width = source.width;
-    let mut t = 0;
-    while t < g {
-        let row = start + Shape::place_in_block(width, first + t, 0);
-        pack_lane(panel, at, lanes, t, m, row, count);
-        t += 1;
-    }
-}
-
-// As `update_entries`; by the panel where the source's rows are packed there.
-fn update_row(
-    m: &mut [f64],
-    panel: &[f64],
-    packed: bool,
-    source: BlockColumn,
-    first: usize,
-    x: usize,
-    y: usize,
-    len: usize,
-    count: usize,
-)
-    requires count_bound { (x + count ≤ y) × (y + len ≤ length m.old) × (first + len ≤ max_order + 1) × (len ≤ 16) }
-    requires by_index { (t : ℕ) → t < len → source.start + row_start source.width (first + t) + count ≤ y }
-    requires count_in_bounds { T packed → (16 * count ≤ length panel.now) × LanesHold panel.now m.old source.start source.width first count len }
-    ensures { Filled nan y len
-        (λ t.
-        minus_products (row_at m.old x) (row_at m.old (source.start + row_start source.width (first + t))) count
-        (get_or m.old (y + t) nan))
-        m.old m.new }
-{
-    if packed {
-        if len == 16 {
-            update16(m, panel, x, y, count);
-        } else {
-            update_part16(m, panel, x, y, len, count);
+impl BlockColumn {
+    // The g rows from row `first` on, as the lanes of a panel, from its place `at` on.
+    pub fn pack(
+        self,
+        panel: &mut [f64],
+        at: usize,
+        lanes: usize,
+        part: &[f64],
+        first: usize,
+        g: usize,
+        count: usize,
+    )
+        requires count_in_bounds { (at + lanes * count ≤ length panel.old) × (g ≤ lanes) × (first + g ≤ self.rows) }
+        requires by_index { (t : ℕ) → t < g → row_start self.width (first + t) + count ≤ length part.now }
+        ensures { Packed panel.old panel.new at lanes part.now self.width first count g }
+    {
+        for t in 0..g {
+            pack_lane(panel, at, lanes, t, part, self.row(first + t), count);
         }
-    } else {
-        update_entries(m, source, first, x, y, len, count);
     }
 }
 
-// The columns of a panel, row by row.
-fn update_rows(m: &mut [f64], panel: &[f64], packed: bool, column: BlockColumn, s0: usize, g: usize)
-    requires own_columns { OwnColumns (length m.old) column.start column.width column.rows s0 g }
-    requires g_bound { (g ≤ 16)
-        × (T packed → (16 * s0 ≤ length panel.now) × LanesHold panel.now m.old column.start column.width s0 s0 g) }
-    ensures { PanelUpdated column.start column.width column.rows s0 g (λ q. row_at m.old (column.start + row_start column.width q)) s0
-        m.old m.new }
-{
-    let mut x = column.start + Shape::place_in_block(column.width, s0, 0);
-    let mut r = s0;
-    while r < column.rows {
-        let len = least(g, r + 1 - s0);
-        update_row(m, panel, packed, column, s0, x, x + s0, len, s0);
-        r += 1;
-        x += least(r, column.width);
+impl Panel {
+    // The first len of the panel's entries in the row that starts at place x.
+    fn update_entries(self, part: &mut [f64], x: usize, len: usize)
+        requires len_bound { (len ≤ self.g) × (x + self.s0 + len ≤ length part.old) }
+        requires by_index { (t : ℕ) → t < len → row_start self.column.width (self.s0 + t) ≤ x }
+        ensures { Filled nan (x + self.s0) len
+            (λ t.
+            minus_products (row_at part.old x) (row_at part.old (row_start self.column.width (self.s0 + t))) self.s0
+            (get_or part.old (x + self.s0 + t) nan))
+            part.old part.new }
+    {
+        for t in 0..len {
+            let y = x + self.s0 + t;
+            part[y] = minus_products(part, x, self.column.row(self.s0 + t), self.s0, part[y]);
+        }
     }
-}
 
-// The g columns from s0 on, less the products of those before them; `spare` is overwritten, and serves as the panel where it is long enough.
-pub fn update_panel(m: &mut [f64], spare: &mut [f64], column: BlockColumn, s0: usize, g: usize)
-    requires own_columns { OwnColumns (length m.old) column.start column.width column.rows s0 g }
-    requires g_bound { g ≤ 16 }
-    ensures { PanelUpdated column.start column.width column.rows s0 g (λ q. row_at m.old (column.start + row_start column.width q)) s0
-        m.old m.new }
-{
-    if s0 == 0 {
-        return;
+    // The panel's entries in row r; by the lanes where the rows of its columns are packed there.
+    fn update_row(self, part: &mut [f64], lanes: Option<&[f64]>, r: usize)
+        requires in_panel { (self.s0 ≤ r) × (r < self.column.rows) × (row_start self.column.width self.column.rows ≤ length part.old) }
+        requires packed { ForSome lanes (λ panel.
+            (16 * self.s0 ≤ length panel.now) × LanesHold panel.now part.old self.column.width self.s0 self.s0 (min self.g (r + 1 - self.s0))) }
+        ensures { Filled nan (row_start self.column.width r + self.s0) (min self.g (r + 1 - self.s0))
+            (λ t.
+            minus_products (row_at part.old (row_start self.column.width r)) (row_at part.old (row_start self.column.width (self.s0 + t)))
+            self.s0 (get_or part.old (row_start self.column.width r + self.s0 + t) nan))
+            part.old part.new }
+    {
+        let x = self.column.row(r);
+        let len = self.columns_in(r);
+        match lanes {
+            Some(panel) if len == 16 => update(part, panel, x, x + self.s0, self.s0),
+            Some(panel) => update_part(part, panel, x, x + self.s0, len, self.s0),
+            None => self.update_entries(part, x, len),
+        }
     }
-    if 16 * s0 <= spare.len() {
-        pack(spare, 0, 16, m, column, s0, g, s0);
-        update_rows(m, spare, true, column, s0, g);
-    } else {
-        update_rows(m, spare, false, column, s0, g);
+
+    // All its rows.
+    fn update_rows(self, part: &mut [f64], lanes: Option<&[f64]>)
+        requires room { row_start self.column.width self.column.rows ≤ length part.old }
+        requires packed { ForSome lanes (λ panel.
+            (16 * self.s0 ≤ length panel.now) × LanesHold panel.now part.old self.column.width self.s0 self.s0 self.g) }
+        ensures { PanelUpdated 0 self.column.width self.column.rows self.s0 self.g (λ q. row_at part.old (row_start self.column.width q))
+            self.s0 part.old part.new }
+    {
+        for r in self.s0..self.column.rows {
+            self.update_row(part, lanes, r);
+        }
+    }
+
+    // `spare` is overwritten, and serves for the lanes where it is long enough.
+    pub fn update(self, part: &mut [f64], spare: &mut [f64])
+        requires { row_start self.column.width self.column.rows ≤ length part.old }
+        ensures { PanelUpdated 0 self.column.width self.column.rows self.s0 self.g (λ q. row_at part.old (row_start self.column.width q))
+            self.s0 part.old part.new }
+    {
+        if self.s0 == 0 {
+            return;
+        }
+        if 16 * self.s0 <= spare.len() {
+            self.column
+                .pack(spare, 0, 16, part, self.s0, self.g, self.s0);
+            self.update_rows(part, Some(spare));
+        } else {
+            self.update_rows(part, None);
+        }
     }
 }

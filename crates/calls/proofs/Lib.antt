@@ -7,6 +7,7 @@ pub mod StateLaws
 pub mod Columns
 pub mod Checks
 pub mod Judging
+pub mod OutcomeLaws
 pub mod CheckLaws
 pub mod Rearranging
 pub mod Agreement

@@ -15,8 +15,7 @@ use Rattle.calls.specs.declared.Call.{Call}
 use Rattle.calls.specs.declared.Call.TheVariants.{Rearranger, Factor, Solver, Variance, Converter, Strike}
 use Rattle.calls.specs.declared.states.State.{State}
 use Rattle.calls.specs.declared.states.State.TheVariants.{Raw, Factored, Spent}
-use Rattle.calls.specs.declared.states.Transition.{Transition}
-use Rattle.calls.specs.declared.states.Transition.TheVariants.{Gives, Unsuited}
+use Rattle.std.specs.Prelude.{Option, Some, None}
 use Rattle.calls.specs.Triangles.{Triangle}
 use Rattle.calls.specs.States.{state_number, look_up, next, given_by}
 use Rattle.calls.specs.Refusals.{accepted, column_verdict}
@@ -36,7 +35,7 @@ number_le Spent = omega arith
 other : (s : State) (state : ℕ) → 4 < state → eqb state (state_number s) ≡ false
 other s state h = ne_eqb state (state_number s) (λ e. omega (arith, number_le s))
 
-pub past_last : (call : Call) (state : ℕ) → 4 < state → next call state ≡ Unsuited
+pub past_last : (call : Call) (state : ℕ) → 4 < state → next call state ≡ None
 unfolding look_up
 past_last (Rearranger from to) state h = rw (other (Raw from) state h, other (Factored from) state h) refl
 past_last (Factor layout) state h = rw (other (Raw layout) state h) refl
@@ -67,10 +66,10 @@ unfolding look_up
 given_same [] state = refl
 given_same (s ∷ wanted) state = go (eqb state (state_number s)) refl (given_same wanted state)
   where
-    rest : Transition
+    rest : Option State
     rest = look_up (map (λ t. (t, t)) wanted) state
 
-    go : (b : Bool) → eqb state (state_number s) ≡ b → given_by rest state ≡ state → given_by (cond b (Gives s) rest) state ≡ state
+    go : (b : Bool) → eqb state (state_number s) ≡ b → given_by rest state ≡ state → given_by (cond b (Some s) rest) state ≡ state
     go true e ih = sym (eqb→eq state (state_number s) (rw e tt))
     go false e ih = ih
 

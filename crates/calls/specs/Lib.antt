@@ -5,6 +5,7 @@ pub mod Arithmetic
 pub mod States
 pub mod Refusals
 pub mod Judgements
+pub mod Outcomes
 pub mod Calls
 pub mod Pipelines
 pub mod Variances

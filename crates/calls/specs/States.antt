@@ -1,12 +1,10 @@
 -- Document 02, (b): what a matrix memory holds, as its shape says, and what each call wants and gives.
-use Rattle.std.specs.Prelude.{ℕ, Bool, true, false, cond, List, [], ◌∷◌, eqb}
+use Rattle.std.specs.Prelude.{ℕ, Bool, true, false, cond, List, [], ◌∷◌, Option, Some, None, eqb}
 use Rattle.calls.specs.declared.Layout.TheVariants.{Packed, Blocked}
 use Rattle.calls.specs.declared.Call.{Call}
 use Rattle.calls.specs.declared.Call.TheVariants.{Rearranger, Factor, Solver, Variance, Converter, Strike}
 use Rattle.calls.specs.declared.states.State.{State}
 use Rattle.calls.specs.declared.states.State.TheVariants.{Raw, Factored, Spent}
-use Rattle.calls.specs.declared.states.Transition.{Transition}
-use Rattle.calls.specs.declared.states.Transition.TheVariants.{Gives, Unsuited}
 
 -- the number of a state in a shape; any other number is that of no state
 abbrev pub state_number : State → ℕ
@@ -26,18 +24,18 @@ transitions Converter = (Raw Packed, Raw Packed) ∷ (Factored Packed, Factored 
 transitions Strike = (Raw Packed, Raw Packed) ∷ []
 
 -- looked up by the number of the wanted state; what has no row does not suit the call
-unfoldable pub look_up : List (State × State) → ℕ → Transition
-look_up [] state = Unsuited
-look_up (row ∷ rows) state = cond (eqb state (state_number row.0)) (Gives row.1) (look_up rows state)
+unfoldable pub look_up : List (State × State) → ℕ → Option State
+look_up [] state = None
+look_up (row ∷ rows) state = cond (eqb state (state_number row.0)) (Some row.1) (look_up rows state)
 
-abbrev pub next : Call → ℕ → Transition
+abbrev pub next : Call → ℕ → Option State
 next call state = look_up (transitions call) state
 
-abbrev pub suits : Transition → Bool
-suits (Gives given) = true
-suits Unsuited = false
+abbrev pub suits : Option State → Bool
+suits (Some given) = true
+suits None = false
 
 -- the number of the state given; unchanged where none is
-abbrev pub given_by : Transition → ℕ → ℕ
-given_by (Gives given) state = state_number given
-given_by Unsuited state = state
+abbrev pub given_by : Option State → ℕ → ℕ
+given_by (Some given) state = state_number given
+given_by None state = state

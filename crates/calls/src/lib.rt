@@ -1,20 +1,21 @@
-// What the calls share: the layouts, the kinds of calls, a rule's verdict, a factor's judgement and a call's result. The states are in states.rt.
+// What the calls share: the layouts, the kinds of calls, and a call's result. The states are in states.rt, the refusals in outcomes.rt.
 #![tactic(auto)]
 
 ghost use Rattle.std.specs.Prelude.{◌≡◌};
-ghost use Rattle.binary64.specs.Kinds.{zero64};
-ghost use Rattle.calls.specs.Refusals as Refusals;
 ghost use Rattle.calls.specs.Calls as Calls;
 ghost use Rattle.calls.specs.Judgements.{Joined};
+ghost use Rattle.calls.specs.Outcomes.{judgement_of, answer_of};
 
+mod outcomes;
 mod states;
 
+pub use outcomes::Refusal;
 use shape::Shape;
-use states::{State, given_by, state_number};
-pub use states::{next, suits};
+use states::State;
+pub use states::next;
 
 // Where the entries of a matrix are kept. The plain calls work on packed memory, the blocked ones on blocked memory.
-#[derive(Clone, Copy)]
+#[derive(Clone, Copy, PartialEq, Eq)]
 pub enum Layout {
     Packed,
     Blocked,
@@ -38,7 +39,7 @@ pub enum Conversion {
     RfpToPacked,
 }
 
-// What the rules answer: a code, a place and a value, which are 0, 0 and +0 where none refuses; the answer of a variance call has its value there.
+// A code, a place and a value, as a call returns them: 0, 0 and +0 where nothing refuses it and it gives no value.
 #[derive(Clone, Copy)]
 pub struct Verdict {
     pub code: usize,
@@ -46,11 +47,19 @@ pub struct Verdict {
     pub value: f64,
 }
 
-// What a factor's columns are judged to so far: the verdict, and whether all are accepted and every root is exact.
+// What a call that is not refused gives beside its memories: the value of a variance, and whether every root of a factor is exact.
 #[derive(Clone, Copy)]
-pub struct Judgement {
-    pub verdict: Verdict,
+pub struct Success {
+    pub value: f64,
     pub exact: bool,
+}
+
+impl Success {
+    // Of a call that gives neither.
+    pub const PLAIN: Success = Success {
+        value: 0.0,
+        exact: false,
+    };
 }
 
 // What a call returns, with the shape for the next call.
@@ -64,97 +73,62 @@ pub struct CallResult {
     pub shape: Shape,
 }
 
-// The verdict of a rule that states no value; success where the code is 0.
-pub fn refusal(code: usize, place: usize) -> Verdict
-    ensures { result ≡ Refusals.refusal code place zero64 }
-{
-    Verdict {
-        code,
-        place,
-        value: 0.0,
+impl From<CallResult> for Verdict {
+    ghost from_gives = { λ res verdict. verdict ≡ (Calls.answer res).verdict };
+
+    fn from(res: CallResult) -> Verdict {
+        Verdict {
+            code: res.code,
+            place: res.place,
+            value: res.value,
+        }
     }
 }
 
-pub fn accepted(verdict: Verdict) -> bool
-    ensures { result ≡ Refusals.accepted verdict }
+// The columns before one and that one itself, judged together: none after the first that is refused decides, and all roots are exact or not.
+pub fn joined(before: Result<bool, Refusal>, column: Result<bool, Refusal>) -> Result<bool, Refusal>
+    ensures { Joined (judgement_of before) (judgement_of column) (judgement_of result) }
 {
-    verdict.code == 0
+    Ok(before? & column?)
 }
 
-// The code, place and value of a result.
-pub fn verdict_of(res: CallResult) -> Verdict
-    ensures { result ≡ (Calls.answer res).verdict }
+// The number of the state that a call returns: its new one on success.
+fn state_after(call: Call, state: usize, outcome: Result<Success, Refusal>) -> usize
+    ensures { result ≡ Calls.state_after call state (answer_of outcome).verdict }
 {
-    Verdict {
-        code: res.code,
-        place: res.place,
-        value: res.value,
-    }
-}
-
-// The columns before one and that one itself, judged together: none after the first that is refused decides.
-pub fn joined(before: Judgement, column: Judgement) -> Judgement
-    ensures { Joined before column result }
-{
-    let decided = before.verdict;
-    if !accepted(decided) {
-        return before;
-    }
-    let verdict = column.verdict;
-    Judgement {
-        verdict,
-        exact: before.exact & column.exact,
-    }
-}
-
-// Whether the matrix is spent: after 10, 11 and 16 it may be neither what it was nor a factor.
-fn spends(verdict: Verdict) -> bool
-    ensures { result ≡ Calls.spends verdict }
-{
-    (verdict.code == 10) | (verdict.code == 11) | (verdict.code == 16)
-}
-
-// The number of the state that a call returns.
-fn state_after(call: Call, state: usize, verdict: Verdict) -> usize
-    ensures { result ≡ Calls.state_after call state verdict }
-{
-    if accepted(verdict) {
-        return given_by(next(call, state), state);
-    }
-    if spends(verdict) {
-        return state_number(State::Spent);
-    }
-    state
-}
-
-// Every call makes its result here: of a factor from what its columns are judged to; where no root was taken from the verdict.
-pub fn judged_result(call: Call, shape: Shape, judgement: Judgement) -> CallResult
-    ensures { result ≡ Calls.judged_result call shape judgement }
-{
-    let verdict = judgement.verdict;
-    let state = state_after(call, shape.state, verdict);
-    CallResult {
-        code: verdict.code,
-        place: verdict.place,
-        value: verdict.value,
-        exact: judgement.exact,
-        shape: Shape {
-            order: shape.order,
-            block: shape.block,
-            state,
+    match outcome {
+        Ok(_) => match next(call, state) {
+            Some(given) => usize::from(given),
+            None => state,
         },
+        Err(refusal) if refusal.spends() => usize::from(State::Spent),
+        Err(_) => state,
     }
 }
 
-pub fn result(call: Call, shape: Shape, verdict: Verdict) -> CallResult
-    ensures { result ≡ Calls.result_of call shape verdict }
+// Every call makes its result here.
+pub fn result(call: Call, shape: Shape, outcome: Result<Success, Refusal>) -> CallResult
+    ensures { result ≡ Calls.judged_result call shape (answer_of outcome) }
 {
-    judged_result(
-        call,
-        shape,
-        Judgement {
-            verdict,
-            exact: false,
+    let state = state_after(call, shape.state, outcome);
+    let shape = Shape { state, ..shape };
+    match outcome {
+        Ok(success) => CallResult {
+            code: 0,
+            place: 0,
+            value: success.value,
+            exact: success.exact,
+            shape,
         },
-    )
+        Err(refusal) => {
+            let verdict = Verdict::from(refusal);
+            CallResult {
+                code: verdict.code,
+                place: verdict.place,
+                value: verdict.value,
+                exact: false,
+                shape,
+            }
+        }
+    }
 }

@@ -1,99 +1,65 @@
 // What a matrix memory holds, and what each call wants and gives.
 ghost use Rattle.std.specs.Prelude.{◌≡◌, ◌∷◌, []};
 ghost use Rattle.calls.specs.States as States;
-ghost use Rattle.calls.specs.States.{state_number, look_up, given_by};
+ghost use Rattle.calls.specs.States.{state_number, look_up};
 
 use crate::{Call, Layout};
 
 // A raw matrix or a factor in a layout, or neither.
-#[derive(Clone, Copy)]
+#[derive(Clone, Copy, PartialEq, Eq)]
 pub enum State {
     Raw(Layout),
     Factored(Layout),
     Spent,
 }
 
-// What a call gives for the state that it finds, where it succeeds.
-#[derive(Clone, Copy)]
-pub enum Transition {
-    Gives(State),
-    Unsuited,
-}
-
 // The number of a state in a shape.
-pub fn state_number(state: State) -> usize
-    ensures { result ≡ state_number state }
-{
-    match state {
-        State::Raw(layout) => match layout {
-            Layout::Packed => 0,
-            Layout::Blocked => 1,
-        },
-        State::Factored(layout) => match layout {
-            Layout::Packed => 2,
-            Layout::Blocked => 3,
-        },
-        State::Spent => 4,
+impl From<State> for usize {
+    ghost from_gives = { λ state number. number ≡ state_number state };
+
+    fn from(state: State) -> usize {
+        match state {
+            State::Raw(Layout::Packed) => 0,
+            State::Raw(Layout::Blocked) => 1,
+            State::Factored(Layout::Packed) => 2,
+            State::Factored(Layout::Blocked) => 3,
+            State::Spent => 4,
+        }
     }
 }
 
 // A row of the table.
-fn row(state: usize, wanted: State, given: State) -> Transition
+fn row(state: usize, wanted: State, given: State) -> Option<State>
     ensures { result ≡ look_up ((wanted, given) ∷ []) state }
 {
-    if state == state_number(wanted) {
-        Transition::Gives(given)
+    if state == usize::from(wanted) {
+        Some(given)
     } else {
-        Transition::Unsuited
+        None
     }
 }
 
-// The table: what a call gives for a state that it wants.
-pub fn next(call: Call, state: usize) -> Transition
+// The table: what a call gives for a state that it wants, where it succeeds; no other state suits it.
+pub fn next(call: Call, state: usize) -> Option<State>
     ensures { result ≡ States.next call state }
 {
     match call {
         Call::Rearranger(from, to) => {
-            if state == state_number(State::Raw(from)) {
-                return Transition::Gives(State::Raw(to));
-            }
-            row(state, State::Factored(from), State::Factored(to))
+            let raw = row(state, State::Raw(from), State::Raw(to));
+            raw.or(row(state, State::Factored(from), State::Factored(to)))
         }
         Call::Factor(layout) => row(state, State::Raw(layout), State::Factored(layout)),
-        Call::Solver(layout) => row(state, State::Factored(layout), State::Factored(layout)),
-        Call::Variance(layout) => row(state, State::Factored(layout), State::Factored(layout)),
-        Call::Converter => {
-            if state == state_number(State::Raw(Layout::Packed)) {
-                return Transition::Gives(State::Raw(Layout::Packed));
-            }
-            row(
-                state,
-                State::Factored(Layout::Packed),
-                State::Factored(Layout::Packed),
-            )
+        Call::Solver(layout) | Call::Variance(layout) => {
+            row(state, State::Factored(layout), State::Factored(layout))
         }
-        Call::Strike => row(
-            state,
-            State::Raw(Layout::Packed),
-            State::Raw(Layout::Packed),
-        ),
-    }
-}
-
-pub fn suits(found: Transition) -> bool
-    ensures { result ≡ States.suits found }
-{
-    match found {
-        Transition::Gives(_) => true,
-        Transition::Unsuited => false,
-    }
-}
-
-pub fn given_by(found: Transition, state: usize) -> usize
-    ensures { result ≡ given_by found state }
-{
-    match found {
-        Transition::Gives(given) => state_number(given),
-        Transition::Unsuited => state,
+        Call::Converter => {
+            let packed = Layout::Packed;
+            let raw = row(state, State::Raw(packed), State::Raw(packed));
+            raw.or(row(state, State::Factored(packed), State::Factored(packed)))
+        }
+        Call::Strike => {
+            let raw = State::Raw(Layout::Packed);
+            row(state, raw, raw)
+        }
     }
 }

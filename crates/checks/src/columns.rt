@@ -1,12 +1,12 @@
 // The rules that judge a column of a factor, for both factors.
-ghost use Rattle.std.specs.Prelude.{◌≡◌, false};
+ghost use Rattle.std.specs.Prelude.{◌≡◌};
 ghost use Rattle.binary64.specs.Judged as Judged;
-ghost use Rattle.calls.specs.Refusals as Refusals;
-ghost use Rattle.calls.specs.Refusals.{rule11, weak, column_rules};
+ghost use Rattle.calls.specs.Refusals.{weak, column_rules};
 ghost use Rattle.calls.specs.Judgements.{judgement};
+ghost use Rattle.calls.specs.Outcomes.{judgement_of};
 
 use binary64::Pivot;
-use calls::{Judgement, Verdict, refusal};
+use calls::Refusal;
 
 // 2^−40
 const WEAK_RATIO: f64 = 9.094947017729282e-13;
@@ -18,46 +18,22 @@ fn is_weak(entered: f64, pivot: f64) -> bool
     (pivot > 0.0) & !(pivot > entered * WEAK_RATIO)
 }
 
-// A refused column, which no factor is exact with.
-fn refused(code: usize, j: usize, value: f64) -> Judgement
-    ensures { result ≡ record { verdict = Refusals.refusal code j value; exact = false } }
-{
-    Judgement {
-        verdict: Verdict {
-            code,
-            place: j,
-            value,
-        },
-        exact: false,
-    }
-}
-
-// Column j where nothing but an entry below that is not finite refuses it.
-pub fn refused_below(j: usize) -> Judgement
-    ensures { result ≡ record { verdict = rule11 j false; exact = false } }
-{
-    refused(11, j, 0.0)
-}
-
 // Rules 10, 16 and 11 of column j, in their order: on its pivot as judged, on the pivot beside the diagonal value at entry, and on whether the entries below
 // are finite. An accepted column is as exact as its root.
-pub fn judge_column(j: usize, entered: f64, pivot: f64, judged: Pivot, finite: bool) -> Judgement
+pub fn judge_column(
+    j: usize,
+    entered: f64,
+    pivot: f64,
+    judged: Pivot,
+    finite: bool,
+) -> Result<bool, Refusal>
     requires { judged ≡ Judged.judged pivot }
-    ensures { result ≡ judgement (column_rules j entered pivot finite) (Judged.exact_root judged) }
+    ensures { judgement_of result ≡ judgement (column_rules j entered pivot finite) (Judged.exact_root judged) }
 {
     match judged {
-        Pivot::Refused(value) => refused(10, j, value),
-        Pivot::Root(_, exact) => {
-            if is_weak(entered, pivot) {
-                return refused(16, j, pivot);
-            }
-            if !finite {
-                return refused_below(j);
-            }
-            Judgement {
-                verdict: refusal(0, 0),
-                exact,
-            }
-        }
+        Pivot::Refused(value) => Err(Refusal::Pivot(j, value)),
+        Pivot::Root(_, _) if is_weak(entered, pivot) => Err(Refusal::Weak(j, pivot)),
+        Pivot::Root(_, _) if !finite => Err(Refusal::Overflow(j)),
+        Pivot::Root(_, exact) => Ok(exact),
     }
 }

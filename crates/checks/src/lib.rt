@@ -8,7 +8,7 @@ ghost use Rattle.calls.specs.Sequences.{all};
 mod columns;
 mod rules;
 
-pub use columns::{judge_column, refused_below};
+pub use columns::judge_column;
 pub use rules::{
     Values, check_diagonal, check_factor, check_finite, check_rearranger, check_sizes, check_solver,
 };
@@ -18,10 +18,8 @@ fn each_finite(values: &[f64]) -> bool
     ensures { result ≡ all finite values.now }
 {
     let mut passed = true;
-    let mut k = 0;
-    while k < values.len() {
-        passed = passed & binary64::is_finite(values[k]);
-        k += 1;
+    for x in values {
+        passed = passed & binary64::is_finite(*x);
     }
     passed
 }
@@ -32,14 +30,12 @@ fn quarters_finite(values: &[f64], quarter: usize) -> bool
     ensures { result ≡ all finite (take (4 * quarter) values.now) }
 {
     let mut passed = true;
-    let mut k = 0;
-    while k < quarter {
+    for k in 0..quarter {
         let first = binary64::is_finite(values[k]);
         let second = binary64::is_finite(values[quarter + k]);
         let third = binary64::is_finite(values[2 * quarter + k]);
         let fourth = binary64::is_finite(values[3 * quarter + k]);
         passed = passed & (first & (second & (third & fourth)));
-        k += 1;
     }
     passed
 }
@@ -55,9 +51,5 @@ pub fn all_finite(values: &[f64]) -> bool
 pub fn clear(part: &mut [f64])
     ensures { part.new ≡ replicate (length part.old) zero64 }
 {
-    let mut p = 0;
-    while p < part.len() {
-        part[p] = 0.0;
-        p += 1;
-    }
+    part.fill(0.0);
 }

@@ -1,15 +1,17 @@
 // The checks before any work: rules 1 to 9 and 15 of crate calls, specs/Refusals.antt, in their order; 14 is in crate variance, 17 in crate convert, 20 in crate strike. Sizes are multiplied only after the rules that bound them.
 ghost use Rattle.std.specs.Prelude.{◌≡◌, ◌∷◌, [], ◌≤◌, ◌<◌, T, length};
+ghost use Rattle.binary64.specs.Kinds.{zero64};
 ghost use Rattle.shape.specs.Bounds.{max_order};
 ghost use Rattle.shape.specs.Places.{triangle};
 ghost use Rattle.shape.specs.Layouts.{Entry};
 ghost use Rattle.calls.specs.Triangles.{place_of};
-ghost use Rattle.calls.specs.Refusals.{by_blocks, needed_work, first_refusal, rule1, rule2, rule15, rule3, rule4, rule5, rule6, finite_rule, rule9};
+ghost use Rattle.calls.specs.Refusals.{refusal, by_blocks, needed_work, first_refusal, rule1, rule2, rule15, rule3, rule4, rule5, rule6, finite_rule, rule9};
+ghost use Rattle.calls.specs.Outcomes.{verdict_of_refusal, verdict_of};
 ghost use Rattle.checks.specs.Values.{finite_code};
 ghost use Rattle.calls.specs.Calls.{rearranger_checks, factor_checks, solver_checks};
 
 use crate::all_finite;
-use calls::{Call, Layout, Verdict, accepted, refusal};
+use calls::{Call, Layout, Refusal};
 use shape::Shape;
 
 // The values that rules 7 and 8 look at.
@@ -19,25 +21,26 @@ pub enum Values {
     Rhs,
 }
 
+impl Values {
+    fn refusal(self, position: usize) -> Refusal
+        ensures { verdict_of_refusal result ≡ refusal (finite_code self) position zero64 }
+    {
+        match self {
+            Values::Matrix => Refusal::MatrixValue(position),
+            Values::Rhs => Refusal::RhsValue(position),
+        }
+    }
+}
+
 fn by_blocks(call: Call) -> bool
     ensures { result ≡ by_blocks call }
 {
     match call {
         Call::Rearranger(_, _) => true,
-        Call::Factor(layout) => match layout {
-            Layout::Packed => false,
-            Layout::Blocked => true,
-        },
-        Call::Solver(layout) => match layout {
-            Layout::Packed => false,
-            Layout::Blocked => true,
-        },
-        Call::Variance(layout) => match layout {
-            Layout::Packed => false,
-            Layout::Blocked => true,
-        },
-        Call::Converter => false,
-        Call::Strike => false,
+        Call::Factor(layout) | Call::Solver(layout) | Call::Variance(layout) => {
+            layout == Layout::Blocked
+        }
+        Call::Converter | Call::Strike => false,
     }
 }
 
@@ -46,77 +49,61 @@ fn needed_work(call: Call, shape: Shape) -> usize
     ensures { result ≡ needed_work call shape.order shape.block }
 {
     match call {
-        Call::Rearranger(_, _) => shape.block_work(),
-        Call::Factor(layout) => match layout {
-            Layout::Packed => shape.order,
-            Layout::Blocked => shape.block_work(),
-        },
-        Call::Solver(_) => shape.order,
-        Call::Variance(_) => shape.order,
-        Call::Converter => 0,
-        Call::Strike => 0,
+        Call::Rearranger(_, _) | Call::Factor(Layout::Blocked) => shape.block_work(),
+        Call::Factor(Layout::Packed) | Call::Solver(_) | Call::Variance(_) => shape.order,
+        Call::Converter | Call::Strike => 0,
     }
 }
 
 // Rules 1, 2, 15, 3 and 4, on the shape and the lengths of the matrix and work memory.
-pub fn check_sizes(call: Call, shape: Shape, matrix: usize, work: usize) -> Verdict
-    ensures { result ≡ first_refusal (rule1 shape.order ∷ rule2 call shape.block ∷ rule15 call shape.state ∷ rule3 shape.order matrix ∷ rule4 call shape.order shape.block work ∷ []) }
+pub fn check_sizes(call: Call, shape: Shape, matrix: usize, work: usize) -> Result<(), Refusal>
+    ensures { verdict_of result ≡ first_refusal (rule1 shape.order ∷ rule2 call shape.block ∷ rule15 call shape.state ∷ rule3 shape.order matrix ∷ rule4 call shape.order shape.block work ∷ []) }
 {
     if !shape.order_in_bounds() {
-        return refusal(1, 0);
+        return Err(Refusal::Order);
     }
     if by_blocks(call) & !shape.block_in_bounds() {
-        return refusal(2, 0);
+        return Err(Refusal::BlockLength);
     }
-    if !calls::suits(calls::next(call, shape.state)) {
-        return refusal(15, 0);
+    if calls::next(call, shape.state).is_none() {
+        return Err(Refusal::Unsuited);
     }
     if matrix != shape.triangle() {
-        return refusal(3, 0);
+        return Err(Refusal::MatrixLength);
     }
     if work < needed_work(call, shape) {
-        return refusal(4, 0);
+        return Err(Refusal::WorkLength);
     }
-    refusal(0, 0)
+    Ok(())
 }
 
 // Rules 5 and 6, on the number of right-hand sides and the length of their memory.
-fn check_rhs(shape: Shape, m: usize, rhs: usize) -> Verdict
+fn check_rhs(shape: Shape, m: usize, rhs: usize) -> Result<(), Refusal>
     requires { shape.order ≤ max_order }
-    ensures { result ≡ first_refusal (rule5 m ∷ rule6 shape.order m rhs ∷ []) }
+    ensures { verdict_of result ≡ first_refusal (rule5 m ∷ rule6 shape.order m rhs ∷ []) }
 {
     if !Shape::rhs_in_bounds(m) {
-        return refusal(5, 0);
+        return Err(Refusal::RhsCount);
     }
     if rhs != shape.order * m {
-        return refusal(6, 0);
+        return Err(Refusal::RhsLength);
     }
-    refusal(0, 0)
+    Ok(())
 }
 
-// The lowest position of a value that is not finite, looked for only where there is one.
-fn check_values(code: usize, memory: &[f64]) -> Verdict
-    requires { 0 < code }
-    ensures { result ≡ finite_rule code memory.now }
+// Rules 7 and 8: the lowest position of a value that is not finite, looked for only where there is one.
+pub fn check_finite(values: Values, memory: &[f64]) -> Result<(), Refusal>
+    ensures { verdict_of result ≡ finite_rule (finite_code values) memory.now }
 {
     if all_finite(memory) {
-        return refusal(0, 0);
+        return Ok(());
     }
-    let mut p = 0;
-    while binary64::is_finite(memory[p]) {
-        p += 1;
+    for (p, x) in memory.iter().enumerate() {
+        if !binary64::is_finite(*x) {
+            return Err(values.refusal(p));
+        }
     }
-    refusal(code, p)
-}
-
-// Rules 7 and 8.
-pub fn check_finite(values: Values, memory: &[f64]) -> Verdict
-    ensures { result ≡ finite_rule (finite_code values) memory.now }
-{
-    match values {
-        Values::Matrix => check_values(7, memory),
-        Values::Rhs => check_values(8, memory),
-    }
+    Ok(())
 }
 
 fn place_of(layout: Layout, shape: Shape, i: usize, j: usize) -> usize
@@ -132,22 +119,20 @@ fn place_of(layout: Layout, shape: Shape, i: usize, j: usize) -> usize
 }
 
 // Rule 9: the lowest column from k on whose diagonal value is not greater than zero.
-pub fn check_diagonal(layout: Layout, shape: Shape, k: usize, matrix: &[f64]) -> Verdict
+pub fn check_diagonal(layout: Layout, shape: Shape, k: usize, matrix: &[f64]) -> Result<(), Refusal>
     requires order_le_max_order { shape.order ≤ max_order }
     requires block_nonzero { T (by_blocks (Call.Solver layout)) → 0 < shape.block }
     requires k_le_order { k ≤ shape.order }
     requires matrix_len { length matrix.now ≡ triangle shape.order }
-    ensures { result ≡ rule9 (place_of layout shape.order shape.block) k shape.order matrix.now }
+    ensures { verdict_of result ≡ rule9 (place_of layout shape.order shape.block) k shape.order matrix.now }
 {
-    let mut j = k;
-    while j < shape.order {
+    for j in k..shape.order {
         let p = place_of(layout, shape, j, j);
         if !(matrix[p] > 0.0) {
-            return refusal(9, j);
+            return Err(Refusal::Diagonal(j));
         }
-        j += 1;
     }
-    refusal(0, 0)
+    Ok(())
 }
 
 pub fn check_rearranger(
@@ -156,19 +141,21 @@ pub fn check_rearranger(
     shape: Shape,
     matrix: usize,
     work: usize,
-) -> Verdict
-    ensures { result ≡ rearranger_checks from to shape matrix work }
+) -> Result<(), Refusal>
+    ensures { verdict_of result ≡ rearranger_checks from to shape matrix work }
 {
     check_sizes(Call::Rearranger(from, to), shape, matrix, work)
 }
 
-pub fn check_factor(layout: Layout, shape: Shape, matrix: &[f64], work: usize) -> Verdict
-    ensures { result ≡ factor_checks layout shape matrix.now work }
+pub fn check_factor(
+    layout: Layout,
+    shape: Shape,
+    matrix: &[f64],
+    work: usize,
+) -> Result<(), Refusal>
+    ensures { verdict_of result ≡ factor_checks layout shape matrix.now work }
 {
-    let sizes = check_sizes(Call::Factor(layout), shape, matrix.len(), work);
-    if !accepted(sizes) {
-        return sizes;
-    }
+    check_sizes(Call::Factor(layout), shape, matrix.len(), work)?;
     check_finite(Values::Matrix, matrix)
 }
 
@@ -179,24 +166,12 @@ pub fn check_solver(
     matrix: &[f64],
     rhs: &[f64],
     work: usize,
-) -> Verdict
-    ensures { result ≡ solver_checks layout shape m matrix.now rhs.now work }
+) -> Result<(), Refusal>
+    ensures { verdict_of result ≡ solver_checks layout shape m matrix.now rhs.now work }
 {
-    let sizes = check_sizes(Call::Solver(layout), shape, matrix.len(), work);
-    if !accepted(sizes) {
-        return sizes;
-    }
-    let rhs_sizes = check_rhs(shape, m, rhs.len());
-    if !accepted(rhs_sizes) {
-        return rhs_sizes;
-    }
-    let matrix_values = check_finite(Values::Matrix, matrix);
-    if !accepted(matrix_values) {
-        return matrix_values;
-    }
-    let rhs_values = check_finite(Values::Rhs, rhs);
-    if !accepted(rhs_values) {
-        return rhs_values;
-    }
+    check_sizes(Call::Solver(layout), shape, matrix.len(), work)?;
+    check_rhs(shape, m, rhs.len())?;
+    check_finite(Values::Matrix, matrix)?;
+    check_finite(Values::Rhs, rhs)?;
     check_diagonal(layout, shape, 0, matrix)
 }

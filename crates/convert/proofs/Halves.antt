@@ -1,6 +1,6 @@
 -- Laws of specs/Halves.antt: which half stands by columns and which by rows, places in a half from row to row and column to column, and regions of entries
 -- whose columns begin, or whose rows end, with the diagonal. Assumes nothing.
-use Prim.Native.Nat.{ℕ, ◌+◌, ◌-◌, ◌*◌, ◌≤◌, ◌<◌, min}
+use Prim.Native.Nat.{ℕ, ◌+◌, ◌-◌, ◌*◌, ◌≤◌, ◌<◌}
 use native.Mathlib.Nat.{add-zero}
 use native.Mathlib.Omega.{arith}
 use native.Mathlib.Decide.{ℕ_discrete}
@@ -12,7 +12,7 @@ use lib.ListN.{length, get_or, set}
 use lib.Ieee.{Float, nan}
 use Rattle.shape.specs.Places.{triangle, packed_place, rfp_rows, rfp_columns, rfp_place}
 use Rattle.shape.specs.Layouts.{Entry}
-use Rattle.shape.proofs.Columns.{packed_place_rows}
+use Rattle.shape.proofs.Columns.{packed_place_rows, packed_place_next_row}
 use Rattle.shape.proofs.Bijections.{packed_bijection}
 use Rattle.shape.proofs.Rfp.{rfp_rows_half, rfp_columns_half, form_0, form_1, rfp_bijection, own_along, other_along}
 use Rattle.calls.specs.declared.Conversion.{Conversion}
@@ -20,7 +20,7 @@ use Rattle.calls.specs.declared.Conversion.TheVariants.{PackedToRfp, RfpToPacked
 use Rattle.calls.specs.Conversions.{source_place, target_place}
 use Rattle.calls.proofs.Conversions.{source_bijection, target_bijection}
 use Rattle.kernels.proofs.Transfers.{moved_entry}
-use Rattle.convert.specs.Halves.{stride, ByColumns, ByRows, Moved}
+use Rattle.convert.specs.Halves.{stride, ByColumns, ByRows, Moved, source_end}
 
 -- ---- the length of a column of the array
 
@@ -89,10 +89,14 @@ rfp_place_below form n i j e = (rfp_bijection form n).below i j e
 pub packed_place_below : (n i j : ℕ) → Entry n i j → packed_place n i j < triangle n
 packed_place_below n i j e = (packed_bijection n).below i j e
 
-module _ (form n left right : ℕ) (rows : ByRows form n left right) where
-  pub narrow : (left' right' : ℕ) → left ≤ left' → right' ≤ right → ByRows form n left' right'
-  narrow left' right' low high i j x y p q e = rows i j x y (omega arith) (omega arith) e
+pub source_below : (conversion : Conversion) (form n i j : ℕ) → Entry n i j → source_place conversion form n i j < triangle n
+source_below conversion form n i j e = (source_bijection conversion form n).below i j e
 
+pub step_le : (conversion : Conversion) (form n : ℕ) → source_end conversion 1 (stride form n) ≤ n + 1
+step_le PackedToRfp form n = omega arith
+step_le RfpToPacked form n = stride_le form n
+
+module _ (form n left right : ℕ) (rows : ByRows form n left right) where
   pub next_row : (i j : ℕ) → left ≤ j → j < right → Entry n i j → rfp_place form n (i + 1) j ≡ rfp_place form n i j + stride form n
   next_row i j low high e =
       let at = rows i j 1 0 low (omega arith) e in
@@ -113,11 +117,12 @@ module _ (form n left right : ℕ) (rows : ByRows form n left right) where
       let column : left + (j - left) ≡ j = omega arith in
       rw column at (rows i left k (j - left) (omega arith) (omega arith) e)
 
-  -- of row i itself
-  pub row_from_left : (i j : ℕ) → left ≤ j → j < right → Entry n i j → rfp_place form n i j ≡ rfp_place form n i left + (j - left)
-  row_from_left i j low high e =
-      let at = place_from_left i j 0 low high (omega (arith, e.lower, e.inside)) in
-      omega (arith, rw (add-zero i) at at)
+  -- to the next row of a column, in source and target alike
+  pub next_place :
+      (conversion : Conversion) (i j : ℕ) → left ≤ j → j < right → Entry n i j →
+      source_place conversion form n (i + 1) j ≡ source_place conversion form n i j + source_end conversion 1 (stride form n)
+  next_place PackedToRfp i j low high e = omega (arith, packed_place_next_row n i j)
+  next_place RfpToPacked i j low high e = next_row i j low high e
 
 -- down column j, in source and target alike
 pub down_column :
@@ -152,13 +157,6 @@ moved_at conversion form n {i = i} {j = j} {source = source} {t = t} e fit at_p 
     (omega (arith, (target_bijection conversion form n).below i j e)))
 
 module _ (conversion : Conversion) (form n : ℕ) where
-  -- the columns of row i end with column i
-  pub to_diagonal : {i left right stop : ℕ} {source t t' : List Float} → stop ≡ min right (i + 1)
-      → Moved conversion form n i (i + 1) left stop source t t'
-      → Moved conversion form n i (i + 1) left right source t t'
-  to_diagonal h m =
-      record { moved = λ i j e a b c d. m.moved i j e a b c (omega (arith, e.lower)); kept = m.kept }
-
   -- the rows of columns from `left` on begin with row `left`
   pub from_left : {first end left right : ℕ} {source t t' : List Float}
       → Moved conversion form n left end left right source t t'

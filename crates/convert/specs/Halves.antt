@@ -1,11 +1,11 @@
 -- Between packed order and rectangular full packed order of a form, one half of the columns stands by columns in both, the other half by columns in packed
 -- order and by rows in the other.
 use Rattle.std.specs.Prelude.{ℕ, ◌+◌, ◌*◌, ◌≤◌, ◌<◌, ◌≡◌, cond, List, eqb, length, Float}
-use Rattle.shape.specs.Bounds.{max_order}
 use Rattle.shape.specs.Places.{triangle, rfp_rows, rfp_columns, rfp_place}
 use Rattle.shape.specs.Layouts.{Entry}
 use Rattle.calls.specs.declared.Conversion.{Conversion}
-use Rattle.calls.specs.Conversions.{source_place, target_place}
+use Rattle.calls.specs.declared.Conversion.TheVariants.{PackedToRfp, RfpToPacked}
+use Rattle.calls.specs.Conversions.{reverse, source_place, target_place}
 use Rattle.kernels.specs.Transfers.{Transferred}
 
 -- the length of the columns of the form's array
@@ -23,10 +23,16 @@ ByRows form n left right =
     (i j x y : ℕ) → left ≤ j → j + y < right → Entry n i j → rfp_place form n (i + x) (j + y) ≡ rfp_place form n i j + x * stride form n + y
 
 -- both memories hold the triangle
-pub record Sizes (n : ℕ) (source target : List Float) : Type 0 where
-  pub order : n ≤ max_order
-  pub source_holds : length source ≡ triangle n
-  pub target_holds : length target ≡ triangle n
+abbrev pub Held : ℕ → List Float → List Float → Type 0
+Held n source target = (length source ≡ triangle n) × (length target ≡ triangle n)
+
+-- of a number for packed order and one for rectangular full packed order, that of the source and that of the target
+abbrev pub source_end : Conversion → ℕ → ℕ → ℕ
+source_end PackedToRfp packed rfp = packed
+source_end RfpToPacked packed rfp = rfp
+
+abbrev pub target_end : Conversion → ℕ → ℕ → ℕ
+target_end conversion = source_end (reverse conversion)
 
 -- the entries of rows first .. end − 1 and columns left .. right − 1 were moved
 abbrev pub Moved : Conversion → ℕ → ℕ → ℕ → ℕ → ℕ → ℕ → List Float → List Float → List Float → Type 0

@@ -1,105 +1,43 @@
-// The half of the columns that stands by rows in rectangular full packed order, moved there. Four columns are moved at once, so that four values of a row
-// are written together.
-ghost use Rattle.std.specs.Prelude.{◌+◌, ◌≤◌, ◌<◌};
+// A half moved to rectangular full packed order. Four columns are moved at once, so that four values of a row are written together.
+ghost use Rattle.std.specs.Prelude.{◌≡◌, ◌+◌, ◌≤◌, ◌<◌};
 ghost use Rattle.calls.specs.declared.Conversion.TheVariants.{PackedToRfp};
-ghost use Rattle.convert.specs.Halves.{ByRows, Sizes, Moved};
+ghost use Rattle.convert.specs.Halves.{Held, Moved};
 
-use crate::places::stride;
-use kernels::{gather_part8, packed_places8, store_part8};
-use shape::Shape;
+use crate::half::Half;
+use kernels::{gather, packed_places, store};
 
-// Column j from its diagonal down to row end − 1.
-fn column_to_rfp(
-    form: usize,
-    shape: Shape,
-    end: usize,
-    j: usize,
-    source: &[f64],
-    target: &mut [f64],
-)
-    requires sizes { Sizes shape.order source.now target.old }
-    requires j_lt_order { (j < shape.order) × (j ≤ end) × (end ≤ shape.order) }
-    requires by_rows { ByRows form shape.order j (j + 1) }
-    ensures { Moved PackedToRfp form shape.order j end j (j + 1) source.now target.old target.new }
-{
-    let mut from = shape.packed_place(j, j);
-    let mut to = shape.rfp_place(form, j, j);
-    let mut i = j;
-    while i < end {
-        target[to] = source[from];
-        from += 1;
-        to += stride(form, shape);
-        i += 1;
+impl Half {
+    // Columns j .. j + 3 from row `first` down.
+    fn move_columns4(self, j: usize, first: usize, source: &[f64], target: &mut [f64])
+        requires to_rfp { self.route.conversion ≡ PackedToRfp }
+        requires j_in_half { (self.left ≤ j) × (j + 4 ≤ self.right) }
+        requires rows { (j + 3 ≤ first) × (first < self.route.shape.order) }
+        requires held { Held self.route.shape.order source.now target.old }
+        ensures { Moved self.route.conversion self.route.form self.route.shape.order first self.route.shape.order j (j + 4) source.now target.old target.new }
+    {
+        let columns = packed_places::<4>(self.route.shape, first, j);
+        let step = self.route.stride();
+        let mut to = self.route.shape.rfp_place(self.route.form, first, j);
+        for i in first..self.route.shape.order {
+            let values = gather(source, columns, i - first);
+            store(target, to, values);
+            to += step;
+        }
     }
-}
 
-// Columns left .. right − 1 down to row end − 1, one after another.
-fn columns_to_rfp(
-    form: usize,
-    shape: Shape,
-    end: usize,
-    left: usize,
-    right: usize,
-    source: &[f64],
-    target: &mut [f64],
-)
-    requires sizes { Sizes shape.order source.now target.old }
-    requires end_le_order { (end ≤ shape.order) × (left ≤ right) × (right ≤ shape.order) × (right ≤ end + 1) }
-    requires by_rows { ByRows form shape.order left right }
-    ensures { Moved PackedToRfp form shape.order 0 end left right source.now target.old target.new }
-{
-    let mut j = left;
-    while j < right {
-        column_to_rfp(form, shape, end, j, source, target);
-        j += 1;
+    // Of four columns the first three rows are a triangle.
+    pub fn move_to_rfp(self, source: &[f64], target: &mut [f64])
+        requires to_rfp { self.route.conversion ≡ PackedToRfp }
+        requires held { Held self.route.shape.order source.now target.old }
+        ensures { Moved self.route.conversion self.route.form self.route.shape.order 0 self.route.shape.order self.left self.right source.now target.old target.new }
+    {
+        for j in (self.left..self.right).step_by(4) {
+            if j + 4 <= self.right {
+                self.move_columns(j, j + 3, j, j + 3, source, target);
+                self.move_columns4(j, j + 3, source, target);
+            } else {
+                self.move_columns(j, self.right, j, self.route.shape.order, source, target);
+            }
+        }
     }
-}
-
-// Columns j .. j + 3 from row `first` down.
-fn columns4_to_rfp(
-    form: usize,
-    shape: Shape,
-    first: usize,
-    j: usize,
-    source: &[f64],
-    target: &mut [f64],
-)
-    requires sizes { Sizes shape.order source.now target.old }
-    requires j_bound { (j + 4 ≤ first + 1) × (first < shape.order) }
-    requires by_rows { ByRows form shape.order j (j + 4) }
-    ensures { Moved PackedToRfp form shape.order first shape.order j (j + 4) source.now target.old target.new }
-{
-    let columns = packed_places8(shape, first, j, 4);
-    let step = stride(form, shape);
-    let mut to = shape.rfp_place(form, first, j);
-    let mut i = first;
-    while i < shape.order {
-        let values = gather_part8(source, columns, i - first, 4);
-        store_part8(target, to, values, 4);
-        to += step;
-        i += 1;
-    }
-}
-
-// Columns left .. right − 1. Of four columns the first three rows are a triangle.
-pub fn half_to_rfp(
-    form: usize,
-    shape: Shape,
-    left: usize,
-    right: usize,
-    source: &[f64],
-    target: &mut [f64],
-)
-    requires sizes { Sizes shape.order source.now target.old }
-    requires left_le_right { (left ≤ right) × (right ≤ shape.order) }
-    requires by_rows { ByRows form shape.order left right }
-    ensures { Moved PackedToRfp form shape.order 0 shape.order left right source.now target.old target.new }
-{
-    let mut j = left;
-    while j + 4 <= right {
-        columns_to_rfp(form, shape, j + 3, j, j + 4, source, target);
-        columns4_to_rfp(form, shape, j + 3, j, source, target);
-        j += 4;
-    }
-    columns_to_rfp(form, shape, shape.order, j, right, source, target);
 }

@@ -1,4 +1,5 @@
-// The engine: the eleven calls, which crate engine_c exports to other languages, and both pipelines with the promise that they agree.
+// The engine: the eleven calls, which crate engine_c exports to other languages under the same names, and both pipelines with the promise that they agree.
+// C has a name for each call, so each is a function here too, though those of two layouts or two directions run the same code.
 #![tactic(auto)]
 
 ghost use Rattle.calls.specs.declared.Layout.TheVariants.{Packed, Blocked};
@@ -14,20 +15,20 @@ ghost use Rattle.calls.specs.Strikes.{StruckAs};
 
 mod pipelines;
 
-use calls::CallResult;
+use calls::{CallResult, Conversion, Layout};
 pub use pipelines::{BothResults, PipelineResult, blocked_pipeline, plain_pipeline, run_both};
 use shape::Shape;
 
 pub fn metsovary_packed_to_blocked(shape: Shape, matrix: &mut [f64], work: &mut [f64]) -> CallResult
     ensures { DoneAs (packed_to_blocked shape matrix.old work.old) result matrix.new work.new }
 {
-    rearrange::packed_to_blocked(shape, matrix, work)
+    rearrange::rearrange(Layout::Blocked, shape, matrix, work)
 }
 
 pub fn metsovary_blocked_to_packed(shape: Shape, matrix: &mut [f64], work: &mut [f64]) -> CallResult
     ensures { DoneAs (blocked_to_packed shape matrix.old work.old) result matrix.new work.new }
 {
-    rearrange::blocked_to_packed(shape, matrix, work)
+    rearrange::rearrange(Layout::Packed, shape, matrix, work)
 }
 
 pub fn metsovary_factor_plain(shape: Shape, matrix: &mut [f64], work: &mut [f64]) -> CallResult
@@ -51,7 +52,7 @@ pub fn metsovary_solve_plain(
 ) -> CallResult
     ensures { SolvedAs (Calls.solve Packed shape m matrix.now rhs.old work.old) result rhs.new work.new }
 {
-    solve::solve_plain(shape, m, matrix, rhs, work)
+    solve::solve(Layout::Packed, shape, m, matrix, rhs, work)
 }
 
 pub fn metsovary_solve_blocked(
@@ -63,7 +64,7 @@ pub fn metsovary_solve_blocked(
 ) -> CallResult
     ensures { SolvedAs (Calls.solve Blocked shape m matrix.now rhs.old work.old) result rhs.new work.new }
 {
-    solve::solve_blocked(shape, m, matrix, rhs, work)
+    solve::solve(Layout::Blocked, shape, m, matrix, rhs, work)
 }
 
 pub fn metsovary_variance_plain(
@@ -74,7 +75,7 @@ pub fn metsovary_variance_plain(
 ) -> CallResult
     ensures { EvaluatedAs (Variances.variance Packed shape k matrix.now work.old) result work.new }
 {
-    variance::variance_plain(shape, k, matrix, work)
+    variance::variance(Layout::Packed, shape, k, matrix, work)
 }
 
 pub fn metsovary_variance_blocked(
@@ -85,7 +86,7 @@ pub fn metsovary_variance_blocked(
 ) -> CallResult
     ensures { EvaluatedAs (Variances.variance Blocked shape k matrix.now work.old) result work.new }
 {
-    variance::variance_blocked(shape, k, matrix, work)
+    variance::variance(Layout::Blocked, shape, k, matrix, work)
 }
 
 pub fn metsovary_packed_to_rfp(
@@ -96,7 +97,7 @@ pub fn metsovary_packed_to_rfp(
 ) -> CallResult
     ensures { ConvertedAs (Conversions.convert PackedToRfp form shape source.now target.old) result target.new }
 {
-    convert::packed_to_rfp(shape, form, source, target)
+    convert::convert(Conversion::PackedToRfp, form, shape, source, target)
 }
 
 pub fn metsovary_rfp_to_packed(
@@ -107,7 +108,7 @@ pub fn metsovary_rfp_to_packed(
 ) -> CallResult
     ensures { ConvertedAs (Conversions.convert RfpToPacked form shape source.now target.old) result target.new }
 {
-    convert::rfp_to_packed(shape, form, source, target)
+    convert::convert(Conversion::RfpToPacked, form, shape, source, target)
 }
 
 pub fn metsovary_strike(shape: Shape, list: &[usize], matrix: &mut [f64]) -> CallResult

@@ -1,9 +1,10 @@
-// Document 01's two roads, and one function that runs both on memories of their own.
+// Document 01's two roads, and one function that runs both on memories of their own. The three memories are parameters, as in the calls: with a struct of
+// three `&mut`s each contract would also have to say that it still holds the same three. A result's code is 0 where the call succeeded, as C sees it.
 ghost use Rattle.std.specs.Prelude.{◌≡◌};
 ghost use Rattle.calls.specs.Pipelines.{plain_pipeline, blocked_pipeline};
 ghost use Rattle.engine.specs.Promises.{ended, memory, BothRan};
 
-use calls::CallResult;
+use calls::{CallResult, Layout};
 use shape::Shape;
 
 // The results of a pipeline's factor and solver, and the shape at its end. Where a call before the solver is refused, its result stands for those after it.
@@ -21,15 +22,16 @@ pub struct BothResults {
     pub blocked: PipelineResult,
 }
 
-// A pipeline that a refused call ends.
-fn refused(res: CallResult) -> PipelineResult
-    ensures { result ≡ record { factor = res; solver = res; shape = res.shape } }
-{
-    let shape = res.shape;
-    PipelineResult {
-        factor: res,
-        solver: res,
-        shape,
+impl PipelineResult {
+    // A pipeline that a refused call ends.
+    fn ended_by(refused: CallResult) -> Self
+        ensures { result ≡ record { factor = refused; solver = refused; shape = refused.shape } }
+    {
+        PipelineResult {
+            factor: refused,
+            solver: refused,
+            shape: refused.shape,
+        }
     }
 }
 
@@ -46,14 +48,13 @@ pub fn plain_pipeline(
 {
     let factor = plain_factor::factor(Shape::new(order, block), matrix, work);
     if factor.code != 0 {
-        return refused(factor);
+        return PipelineResult::ended_by(factor);
     }
-    let solver = solve::solve_plain(factor.shape, m, matrix, rhs, work);
-    let shape = solver.shape;
+    let solver = solve::solve(Layout::Packed, factor.shape, m, matrix, rhs, work);
     PipelineResult {
         factor,
         solver,
-        shape,
+        shape: solver.shape,
     }
 }
 
@@ -68,21 +69,20 @@ pub fn blocked_pipeline(
 ) -> PipelineResult
     ensures { ended result matrix.new rhs.new work.new ≡ blocked_pipeline order block m matrix.old rhs.old work.old }
 {
-    let there = rearrange::packed_to_blocked(Shape::new(order, block), matrix, work);
+    let there = rearrange::rearrange(Layout::Blocked, Shape::new(order, block), matrix, work);
     if there.code != 0 {
-        return refused(there);
+        return PipelineResult::ended_by(there);
     }
     let factor = blocked_factor::factor(there.shape, matrix, work);
     if factor.code != 0 {
-        return refused(factor);
+        return PipelineResult::ended_by(factor);
     }
-    let solver = solve::solve_blocked(factor.shape, m, matrix, rhs, work);
-    let back = rearrange::blocked_to_packed(solver.shape, matrix, work);
-    let shape = back.shape;
+    let solver = solve::solve(Layout::Blocked, factor.shape, m, matrix, rhs, work);
+    let back = rearrange::rearrange(Layout::Packed, solver.shape, matrix, work);
     PipelineResult {
         factor,
         solver,
-        shape,
+        shape: back.shape,
     }
 }
 

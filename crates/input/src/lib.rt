@@ -1,44 +1,31 @@
 // A reader, as standard input, read to its end or until a buffer is full.
 #![tactic(auto)]
 
-ghost use Rattle.std.specs.Prelude.{◌<◌, ◌≤◌, take, length, IsFalse};
+ghost use Rattle.std.specs.Prelude.{◌<◌, ◌≤◌, take, length, IfOk, MatchResult};
 ghost use Rattle.std.specs.Io.KnownBytes.{Consumes, IsAtEnd};
 
 use std::io::Read;
 
-// How many bytes were read, and whether a read failed.
+// A read failed, after so many bytes had been read.
 #[derive(Clone, Copy)]
-pub struct Input {
-    pub failed: bool,
+pub struct ReadFailed {
     pub count: usize,
 }
 
-// A read that a signal interrupts is a failed one.
-pub fn read_input<R: Read>(reader: &mut R, buffer: &mut [u8]) -> Input
-    ensures in_bounds { result.count ≤ length buffer.old }
-    ensures bytes { Consumes (R.remaining reader.old) (R.remaining reader.new) (take result.count buffer.new) }
-    ensures end { IsFalse result.failed → result.count < length buffer.old → IsAtEnd (R.remaining reader.new) }
+// How many bytes were read. A read that a signal interrupts is a failed one.
+pub fn read_input<R: Read>(reader: &mut R, buffer: &mut [u8]) -> Result<usize, ReadFailed>
+    ensures in_bounds { MatchResult result (λ count. count ≤ length buffer.old) (λ failed. failed.count ≤ length buffer.old) }
+    ensures bytes { MatchResult result (λ count. Consumes (R.remaining reader.old) (R.remaining reader.new) (take count buffer.new)) (λ failed. Consumes (R.remaining reader.old) (R.remaining reader.new) (take failed.count buffer.new)) }
+    ensures end { IfOk result (λ count. count < length buffer.old → IsAtEnd (R.remaining reader.new)) }
 {
+    // A read gives as many bytes as it will: no range has such steps.
     let mut at = 0;
     while at < buffer.len() {
         match reader.read(&mut buffer[at..]) {
-            Ok(0) => {
-                return Input {
-                    failed: false,
-                    count: at,
-                };
-            }
+            Ok(0) => break,
             Ok(n) => at += n,
-            Err(_) => {
-                return Input {
-                    failed: true,
-                    count: at,
-                };
-            }
+            Err(_) => return Err(ReadFailed { count: at }),
         }
     }
-    Input {
-        failed: false,
-        count: at,
-    }
+    Ok(at)
 }

@@ -13,10 +13,9 @@ use lib.Ieee.{Float, binary64, of_bits}
 use borrow.Author.Tests.{eq-eqb}
 use Rattle.binary64.specs.Kinds.{zero64}
 use Rattle.shape.specs.Places.{triangle}
-use Rattle.job_format.specs.declared.Fault.{Fault}
 use Rattle.job_format.specs.declared.Sizes.{Sizes}
 use Rattle.job_format.specs.declared.Zeros.TheVariants.{Kept, Needless}
-use Rattle.job_format.specs.Reading.{Parsed, fault, found, and_then, require, malformed, needless_zero, field, needless, value, values}
+use Rattle.job_format.specs.Reading.{Parsed, fault, found, and_then, require, fault_code, fault_place, malformed, needless_zero, field, needless, value, values}
 use Rattle.job_format.specs.Format.{Contents, map_bit, read_sizes, read_map, read_values, read_contents, read_job}
 use Rattle.job_format.specs.Rewriting.{rewritten}
 use Rattle.job_format.proofs.Canonical.{reads_back}
@@ -47,7 +46,7 @@ former_read_job file =
     former_read_values file sizes at))
 
 former_listed : Parsed Job → List ℕ
-former_listed (fault f) = end_line 13 f.place
+former_listed (fault f) = end_line 13 (fault_place f)
 former_listed (found job at) = listing_of job
 
 pub former_listing : List ℕ → List ℕ
@@ -130,14 +129,14 @@ module _ (file : List ℕ) where
 
   contents_listed : (sizes : Sizes) (p : Parsed Contents) → Under13 p → listed sizes p ≡ former_listed (onto job_of p)
   unfolding former_listed fault_lines
-  contents_listed sizes (fault f) h = rw (eq-eqb f.code 13 h) (ap (λ (c : ℕ). end_line c f.place) h)
+  contents_listed sizes (fault f) h = rw (eq-eqb (fault_code f) 13 h) (ap (λ (c : ℕ). end_line c (fault_place f)) h)
   contents_listed sizes (found job at) h = refl
 
   listed_alike :
       (p : Parsed Sizes) → Under13 p → and_then p (λ sizes at. read_contents Needless file sizes at) ≡ and_then p (λ sizes at. read_contents Kept file sizes at) →
       listed_from file p ≡ former_listed (onto job_of (and_then p (λ sizes at. read_contents Kept file sizes at)))
   unfolding former_listed
-  listed_alike (fault f) h same = ap (λ (c : ℕ). end_line c f.place) h
+  listed_alike (fault f) h same = ap (λ (c : ℕ). end_line c (fault_place f)) h
   listed_alike (found sizes at) h same = ap (listed sizes) same ∙ contents_listed sizes (read_contents Kept file sizes at) (contents_13 file sizes at)
 
   same_listing : read_job Needless file ≡ read_job Kept file → listing file ≡ former_listing file
@@ -154,7 +153,7 @@ module _ (file : List ℕ) where
       go :
           (p : Parsed Sizes) → Under13 p → and_then p (λ sizes at. read_contents Needless file sizes at) ≡ fault (needless_zero place) →
           (sizes : Sizes) × (at : ℕ) × (p ≡ found sizes at) × (listed_from file p ≡ job_line sizes.order sizes.block sizes.count ++ end_line 18 place)
-      go (fault f) h x = let z : f ≡ needless_zero place = cc in absurd (omega (arith, ap (λ (y : Fault). y.code) z, h))
+      go (fault f) h x = let z : f ≡ needless_zero place = cc in absurd (omega (arith, ap fault_code z, h))
       go (found sizes at) h x = (sizes, at, refl, ap (listed sizes) x)
 
 pub as_before : (file : List ℕ) → AsBefore file

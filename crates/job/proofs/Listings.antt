@@ -6,13 +6,16 @@ use native.Mathlib.Decide.{ℕ_discrete as dec_eq}
 use mathlib.Core.Path.{◌≡◌, refl, sym, ap, ◌∙◌, subst}
 use mathlib.Core.Bool.{Bool, true, false, cond, not, ◌&&◌}
 use mathlib.Core.List.{List, [], ◌∷◌, ◌++◌}
-use lib.Dec.{T, eqb→eq}
+use lib.Dec.{T}
 use lib.ListN.{length, take, replicate, length-append}
 use lib.Ieee.{Float, binary64, of_bits}
-use borrow.Author.Tests.{le-leb, lt-leb, eq-eqb, ne_eqb}
+use borrow.Author.Tests.{le-leb, lt-leb, eq-eqb}
 use Rattle.shape.specs.Places.{block_work}
 use Rattle.shape.specs.declared.Shape.{Shape}
 use Rattle.calls.specs.declared.Verdict.{Verdict}
+use Rattle.calls.specs.declared.outcomes.Refusal.{Refusal}
+use Rattle.calls.specs.Outcomes.{verdict_of_refusal}
+use Rattle.calls.proofs.OutcomeLaws.{not_accepted}
 use Rattle.calls.specs.declared.Layout.{Layout}
 use Rattle.calls.specs.declared.Layout.TheVariants.{Blocked}
 use Rattle.calls.specs.Sequences.{all}
@@ -26,7 +29,7 @@ use Rattle.calls.proofs.Refusals.{cond_both}
 use Rattle.calls.proofs.Judging.{lowest_all}
 use Rattle.calls.proofs.CheckLaws.{refuse_accepted, solver_success as checks-success}
 use Rattle.job_format.specs.declared.Sizes.{Sizes}
-use Rattle.job_format.specs.Reading.{Parsed, fault, found, and_then}
+use Rattle.job_format.specs.Reading.{Parsed, fault, found, and_then, fault_code, fault_place}
 use Rattle.job_format.specs.declared.Fault.{Fault}
 use Rattle.job_format.specs.declared.Zeros.TheVariants.{Needless}
 use Rattle.job_format.specs.Format.{Contents, InBounds, read_sizes, read_contents, read_job}
@@ -80,21 +83,11 @@ pipeline_success n b m matrix rhs work =
     go false e x y g k = k e
 
 -- a refusal of 7 or 8 is the job's verdict, and memory is not looked at
-module _ (job : Job) (v : Verdict) (m x : List Float) (no : v.code ≡ 0 → ⊥) where
-  not_accepted : {A : Type 0} → T (accepted v) → A
-  not_accepted h = absurd (no (eqb→eq v.code 0 h))
-
-  pub refused_by_7 : v ≡ rule7 job.matrix → JobSolved job v m x
-  unfolding job_verdict first_refusal
-  refused_by_7 e =
-      let refused : accepted v ≡ false = ne_eqb v.code 0 no in
-      record { verdict = rw (← e, refused, refused) refl; matrix = λ h. not_accepted h; rhs = λ h. not_accepted h }
-
-  pub refused_by_8 : (u : Verdict) → u ≡ rule7 job.matrix → u.code ≡ 0 → v ≡ rule8 job.rhs → JobSolved job v m x
-  unfolding job_verdict first_refusal
-  refused_by_8 u f z e =
-      let refused : accepted v ≡ false = ne_eqb v.code 0 no in
-      record { verdict = rw (← f, eq-eqb u.code 0 z, ← e, refused, refused) refl; matrix = λ h. not_accepted h; rhs = λ h. not_accepted h }
+pub job_refused : (job : Job) (r : Refusal) (m x : List Float) → verdict_of_refusal r ≡ first_refusal (rule7 job.matrix ∷ rule8 job.rhs ∷ []) → JobSolved job (verdict_of_refusal r) m x
+unfolding job_verdict
+job_refused job r m x e =
+    let no : accepted (verdict_of_refusal r) ≡ false = not_accepted r in
+    record { verdict = rw (← e, no) refl; matrix = λ h. absurd (subst T no h); rhs = λ h. absurd (subst T no h) }
 
 -- ---- lengths
 
@@ -117,7 +110,7 @@ module _ (sizes : Sizes) (inside : InBounds sizes) where
       )
 
   pub fault_short : (f : Fault) → length (fault_lines sizes f) ≤ 60
-  fault_short f = omega (arith, length_fault sizes f, job_short, end_short f.code f.place)
+  fault_short f = omega (arith, length_fault sizes f, job_short, end_short (fault_code f) (fault_place f))
 
   -- a listing of at most 2,080 matrix values and 1,024 right-side values
   pub result_short :
@@ -169,15 +162,11 @@ job_success job =
         at false e = λ h. absurd (rw e at h)
 
 -- 7 and 8 pass, and the pipeline ran
-pub job_ran :
-    (job : Job) (u v : Verdict) (e : Ended) →
-    u ≡ rule7 job.matrix → u.code ≡ 0 → v ≡ rule8 job.rhs → v.code ≡ 0 → e ≡ job_ended job → JobSolved job (answer e.solver_result).verdict e.matrix e.rhs
-unfolding job_verdict first_refusal
-job_ran job u v e p a q b i =
-    let seven : accepted (rule7 job.matrix) ≡ true = ap accepted (sym p) ∙ eq-eqb u.code 0 a in
-    let eight : accepted (rule8 job.rhs) ≡ true = ap accepted (sym q) ∙ eq-eqb v.code 0 b in
+pub job_ran : (job : Job) (e : Ended) → success ≡ first_refusal (rule7 job.matrix ∷ rule8 job.rhs ∷ []) → e ≡ job_ended job → JobSolved job (answer e.solver_result).verdict e.matrix e.rhs
+unfolding job_verdict
+job_ran job e p i =
     record {
-      verdict = rw (seven, eight) (ap (λ (x : Ended). (answer x.solver_result).verdict) i);
+      verdict = rw (← p) (ap (λ (x : Ended). (answer x.solver_result).verdict) i);
       matrix = λ h. ap (λ (x : Ended). x.matrix) i;
       rhs = λ h. ap (λ (x : Ended). x.rhs) i;
     }
@@ -216,26 +205,29 @@ job_success_of job r m x s h = s.verdict ∙ job_success job (subst (λ (y : Ver
 
 -- ---- what is written to memory of a given size
 
-module _ (file out : List ℕ) where
-  pub no_room : length out < 58998 → [] ≡ listing_in (length out) file
+module _ (file : List ℕ) (size : ℕ) where
+  pub no_room : size < 58998 → listing_in size file ≡ []
   unfolding listing_in
-  no_room h = rw (lt-leb 58998 (length out) h)
+  no_room h = rw (lt-leb 58998 size h)
 
-  pub listing_fault : (f : Fault) → 58998 ≤ length out → fault f ≡ read_sizes file → end_line f.code f.place ≡ listing_in (length out) file
-  unfolding listing_in listing
-  listing_fault f h e = rw (le-leb 58998 (length out) h, ← e)
+  pub with_room : 58998 ≤ size → listing_in size file ≡ listing file
+  unfolding listing_in
+  with_room h = rw (le-leb 58998 size h)
 
-  pub listing_sizes :
-      (sizes : Sizes) (at : ℕ) → 58998 ≤ length out → found sizes at ≡ read_sizes file →
-      listed sizes (read_contents Needless file sizes at) ≡ listing_in (length out) file
-  unfolding listing_in listing
-  listing_sizes sizes at h e = rw (le-leb 58998 (length out) h, ← e)
+module _ (file : List ℕ) where
+  pub listing_fault : (f : Fault) → fault f ≡ read_sizes file → end_line (fault_code f) (fault_place f) ≡ listing file
+  unfolding listing
+  listing_fault f e = rw (← e)
+
+  pub listing_sizes : (sizes : Sizes) (at : ℕ) → found sizes at ≡ read_sizes file → listed sizes (read_contents Needless file sizes at) ≡ listing file
+  unfolding listing
+  listing_sizes sizes at e = rw (← e)
 
 -- ---- reading 25,098 bytes is enough
 
 -- the listing by what was read of the sizes and of the whole job
 listed_by : Parsed Sizes → Parsed Contents → List ℕ
-listed_by (fault f) job = end_line f.code f.place
+listed_by (fault f) job = end_line (fault_code f) (fault_place f)
 listed_by (found sizes at) job = listed sizes job
 
 listing_by : (file : List ℕ) → listing file ≡ listed_by (read_sizes file) (read_job Needless file)

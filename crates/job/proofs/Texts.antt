@@ -4,23 +4,23 @@ use native.Mathlib.Nat.{pow-suc}
 use native.Mathlib.Omega.{arith}
 use native.Mathlib.Decide.{ℕ_discrete as dec_eq}
 use mathlib.Core.Path.{◌≡◌, refl, sym, ap, ◌∙◌}
-use mathlib.Core.Bool.{cond}
 use mathlib.Core.List.{List, [], ◌∷◌, ◌++◌, append_assoc, append-nil}
-use lib.Dec.{eqb}
-use lib.ListN.{length, get_or, set, length-append}
+use lib.ListN.{length, get_or, length-append}
 use lib.Ieee.{Float, nan, binary64, to_bits}
 use borrow.Author.Tests.{eq-eqb, ne_eqb}
 use lib.Pow.{pow-add}
-use Rattle.calls.specs.Sequences.{iterate, grow, tabulate}
+use Rattle.calls.specs.Sequences.{iterate, tabulate}
 use Rattle.calls.proofs.Sequences.{length_tabulate}
 use Rattle.calls.specs.declared.Verdict.{Verdict}
 use Rattle.job_format.specs.declared.Fault.{Fault}
 use Rattle.job_format.specs.declared.Sizes.{Sizes}
-use Rattle.text.specs.Writing.{Written, pieces}
+use Rattle.text.specs.declared.Writer.{Writer}
+use Rattle.text.specs.Writing.{Puts, pieces}
 use Rattle.text.specs.Decimals.{decimal}
+use Rattle.job_format.specs.Reading.{fault_code, fault_place}
 use Rattle.job.specs.Listing.{hex_digit, hexadecimal, job_line, value_line, value_lines, end_line, solution_lines, result_lines, fault_lines}
 use Rattle.text.proofs.Decimals.{number_text}
-use Rattle.text.proofs.Texts.{as_text, nothing_written, byte_written, length_written, tabulated_turn}
+use Rattle.text.proofs.Texts.{puts_then, tabulated_none, tabulated_turn}
 
 -- ---- hexadecimal digits
 
@@ -34,39 +34,24 @@ pow_four (suc k) =
 abbrev pub hex_digits : ℕ → ℕ → List ℕ
 hex_digits bits count = tabulate count (λ i. hex_digit (bits / 16 ^ (15 - i) % 16))
 
+pub hex_none : (bits : ℕ) (a : Writer) → Puts (hex_digits bits 0) a a
+hex_none bits a = tabulated_none (λ j. hex_digit (bits / 16 ^ (15 - j) % 16)) a
+
 pub hex_turn :
-    (a out : List ℕ) (at bits i d : ℕ) →
-    at + 16 ≤ length a →
-    i < 16 →
-    Written at (hex_digits bits i) a (at + i) out →
-    d ≡ hex_digit (bits / 2 ^ (60 - 4 * i) % 16) →
-    Written at (hex_digits bits (i + 1)) a (at + (i + 1)) (set out (at + i) d)
-hex_turn a out at bits i d h l w e =
+    {a b c : Writer} (bits i d : ℕ) → a.at + i ≤ length a.out.now → i < 16 → Puts (hex_digits bits i) a b →
+    d ≡ hex_digit (bits / 2 ^ (60 - 4 * i) % 16) → Puts (d ∷ []) b c → Puts (hex_digits bits (i + 1)) a c
+hex_turn bits i d h l p e q =
     let f : ℕ → ℕ = λ j. hex_digit (bits / 16 ^ (15 - j) % 16) in
     let k : 60 - 4 * i ≡ 4 * (15 - i) = omega arith in
     let v : d ≡ f i = e ∙ ap (λ (x : ℕ). hex_digit (bits / x % 16)) (ap (λ (j : ℕ). 2 ^ j) k ∙ pow_four (15 - i)) in
-    let len : length out ≡ length a = length_written (omega (arith, length_tabulate f i)) w in
-    let p : at + (i + 1) ≡ at + i + 1 = omega arith in
-    rw p (tabulated_turn f at (at + i) (at + i + 1) i d a out (set out (at + i) d) (omega arith) w v (byte_written out (at + i) d (omega arith)))
+    tabulated_turn f i d h p v q
 
-pub hex_start : (a : List ℕ) (at bits : ℕ) → Written at (hex_digits bits 0) a (at + 0) a
-unfolding tabulate grow
-hex_start a at bits = let e : at + 0 ≡ at = omega arith in rw e (nothing_written at a)
+pub length_hex : (bits i : ℕ) → length (hex_digits bits i) ≡ i
+length_hex bits i = length_tabulate (λ j. hex_digit (bits / 16 ^ (15 - j) % 16)) i
 
-pub length_hex : (a out : List ℕ) (at bits i : ℕ) → at + 16 ≤ length a → i ≤ 16 → Written at (hex_digits bits i) a (at + i) out → length out ≡ length a
-length_hex a out at bits i h l w = length_written (omega (arith, length_tabulate (λ j. hex_digit (bits / 16 ^ (15 - j) % 16)) i)) w
-
-pub hex_done :
-    (a out : List ℕ) (at bits i : ℕ) (v : Float) →
-    bits ≡ to_bits binary64 v →
-    i ≤ 16 →
-    16 ≤ i →
-    Written at (hex_digits bits i) a (at + i) out →
-    Written at (hexadecimal v) a (at + i) out
+pub hex_all : (bits i : ℕ) (v : Float) → bits ≡ to_bits binary64 v → i ≡ 16 → hex_digits bits i ≡ hexadecimal v
 unfolding hexadecimal
-hex_done a out at bits i v e l h w =
-    let s : i ≡ 16 = omega arith in
-    as_text (ap (hex_digits bits) s ∙ ap (λ (x : ℕ). hex_digits x 16) e) w
+hex_all bits i v e h = ap (hex_digits bits) h ∙ ap (λ (x : ℕ). hex_digits x 16) e
 
 -- ---- the lengths of texts
 
@@ -123,23 +108,8 @@ pub length_value_lines : (head : List ℕ) (vs : List Float) → length head ≡
 unfolding value_lines
 length_value_lines head vs h = length_lines head vs h (length vs)
 
-pub length_join : (at : ℕ) (head : List ℕ) (v : Float) (a : List ℕ) → length head ≡ 2 → at + 19 ≤ length a → at + length (head ++ hexadecimal v) ≤ length a
-length_join at head v a h l = omega (arith, length-append head (hexadecimal v), length_hexadecimal v)
-
--- where a line fits, so does what it begins with
-prefix_fits : (at : ℕ) (a text more line : List ℕ) → text ++ more ≡ line → at + length line ≤ length a → at + length text ≤ length a
-prefix_fits at a text more line e h = omega (arith, length-append text more, ap length e)
-
-module _ (at n b m : ℕ) (a : List ℕ) (h : at + length (job_line n b m) ≤ length a) where
-  pub job_fits_block : at + length (job_head ++ number_text n 32 ++ number_text b 32) ≤ length a
-  job_fits_block = prefix_fits at a (job_head ++ number_text n 32 ++ number_text b 32) (number_text m 10) (job_line n b m) (job_text n b m) h
-
-  pub job_fits_order : at + length (job_head ++ number_text n 32) ≤ length a
-  job_fits_order = prefix_fits at a (job_head ++ number_text n 32) (number_text b 32) (job_head ++ number_text n 32 ++ number_text b 32) refl job_fits_block
-
-module _ (at code place : ℕ) (a : List ℕ) (h : at + length (end_line code place) ≤ length a) where
-  pub end_fits_code : at + length (end_head ++ number_text code 32) ≤ length a
-  end_fits_code = prefix_fits at a (end_head ++ number_text code 32) (number_text place 10) (end_line code place) (end_text code place) h
+pub length_join : (head : List ℕ) (v : Float) → length head ≡ 2 → length (head ++ hexadecimal v) ≡ 18
+length_join head v h = omega (arith, length-append head (hexadecimal v), length_hexadecimal v)
 
 -- ---- the listing's parts
 
@@ -150,6 +120,14 @@ module _ (matrix rhs : List Float) where
       length-append (value_lines (70 ∷ 32 ∷ []) matrix) (value_lines (88 ∷ 32 ∷ []) rhs)
       ∙ omega (arith, length_value_lines (70 ∷ 32 ∷ []) matrix refl, length_value_lines (88 ∷ 32 ∷ []) rhs refl)
 
+  -- the lines of the matrix, then those of the right-hand sides
+  pub solution_put :
+      {a b c : Writer} → a.at + length (solution_lines matrix rhs) ≤ length a.out.now → Puts (value_lines (70 ∷ 32 ∷ []) matrix) a b →
+      Puts (value_lines (88 ∷ 32 ∷ []) rhs) b c → Puts (solution_lines matrix rhs) a c
+  unfolding solution_lines
+  solution_put h p q =
+      puts_then (omega (arith, length_solution_lines, length_value_lines (70 ∷ 32 ∷ []) matrix refl)) p q
+
   module _ (sizes : Sizes) (verdict : Verdict) where
     pub refused_lines : (verdict.code ≡ 0 → ⊥) → job_line sizes.order sizes.block sizes.count ++ end_line verdict.code verdict.place ≡ result_lines sizes verdict matrix rhs
     unfolding result_lines
@@ -159,49 +137,42 @@ module _ (matrix rhs : List Float) where
     unfolding result_lines
     accepted_lines h = rw (eq-eqb verdict.code 0 h)
 
-  module _ (sizes : Sizes) (verdict : Verdict) (a : List ℕ) (fits : length (result_lines sizes verdict matrix rhs) ≤ length a) where
-    pub job_fits : length (job_line sizes.order sizes.block sizes.count) ≤ length a
-    unfolding result_lines
-    job_fits =
-        omega (
-          arith,
-          length-append (job_line sizes.order sizes.block sizes.count ++ cond (eqb verdict.code 0) (solution_lines matrix rhs) []) (end_line verdict.code verdict.place),
-          length-append (job_line sizes.order sizes.block sizes.count) (cond (eqb verdict.code 0) (solution_lines matrix rhs) []),
-        )
+    pub length_refused :
+        (verdict.code ≡ 0 → ⊥) → length (result_lines sizes verdict matrix rhs) ≡ length (job_line sizes.order sizes.block sizes.count) + length (end_line verdict.code verdict.place)
+    length_refused h = sym (ap length (refused_lines h)) ∙ length-append (job_line sizes.order sizes.block sizes.count) (end_line verdict.code verdict.place)
 
-    pub refused_fits : (verdict.code ≡ 0 → ⊥) → length (job_line sizes.order sizes.block sizes.count) + length (end_line verdict.code verdict.place) ≤ length a
-    refused_fits h =
-        omega (arith, length-append (job_line sizes.order sizes.block sizes.count) (end_line verdict.code verdict.place), ap length (refused_lines sizes verdict h))
-
-    pub accepted_fits :
+    pub length_accepted :
         verdict.code ≡ 0 →
-        length (job_line sizes.order sizes.block sizes.count) + length (solution_lines matrix rhs) + length (end_line verdict.code verdict.place) ≤ length a
-    accepted_fits h =
-        omega (
-          arith,
-          length-append (job_line sizes.order sizes.block sizes.count ++ solution_lines matrix rhs) (end_line verdict.code verdict.place),
-          length-append (job_line sizes.order sizes.block sizes.count) (solution_lines matrix rhs),
-          ap length (accepted_lines sizes verdict h),
-        )
+        length (result_lines sizes verdict matrix rhs)
+        ≡ length (job_line sizes.order sizes.block sizes.count) + length (solution_lines matrix rhs) + length (end_line verdict.code verdict.place)
+    length_accepted h =
+        sym (ap length (accepted_lines h))
+        ∙ length-append (job_line sizes.order sizes.block sizes.count ++ solution_lines matrix rhs) (end_line verdict.code verdict.place)
+        ∙ ap (λ (k : ℕ). k + length (end_line verdict.code verdict.place)) (length-append (job_line sizes.order sizes.block sizes.count) (solution_lines matrix rhs))
 
-    pub two_fit : verdict.code ≡ 0 → 0 + length (job_line sizes.order sizes.block sizes.count ++ solution_lines matrix rhs) ≤ length a
-    two_fit h = omega (arith, accepted_fits h, length-append (job_line sizes.order sizes.block sizes.count) (solution_lines matrix rhs))
+    -- the job's line is a part of it in any case
+    pub length_first : length (job_line sizes.order sizes.block sizes.count) ≤ length (result_lines sizes verdict matrix rhs)
+    length_first =
+        elim (dec_eq verdict.code 0) [
+          | yes e ↦ omega (arith, length_accepted e)
+          | no e ↦ omega (arith, length_refused e)
+        ]
 
 -- ---- the lines of a fault
 
 module _ (sizes : Sizes) (f : Fault) where
-  pub end_alone : f.code ≡ 13 → end_line f.code f.place ≡ fault_lines sizes f
+  pub end_alone : (fault_code f) ≡ 13 → end_line (fault_code f) (fault_place f) ≡ fault_lines sizes f
   unfolding fault_lines
-  end_alone e = rw (eq-eqb f.code 13 e)
+  end_alone e = rw (eq-eqb (fault_code f) 13 e)
 
-  pub both_lines : (f.code ≡ 13 → ⊥) → job_line sizes.order sizes.block sizes.count ++ end_line f.code f.place ≡ fault_lines sizes f
+  pub both_lines : ((fault_code f) ≡ 13 → ⊥) → job_line sizes.order sizes.block sizes.count ++ end_line (fault_code f) (fault_place f) ≡ fault_lines sizes f
   unfolding fault_lines
-  both_lines h = rw (ne_eqb f.code 13 h)
+  both_lines h = rw (ne_eqb (fault_code f) 13 h)
 
   -- in either case no more than both
-  pub length_fault : length (fault_lines sizes f) ≤ length (job_line sizes.order sizes.block sizes.count) + length (end_line f.code f.place)
+  pub length_fault : length (fault_lines sizes f) ≤ length (job_line sizes.order sizes.block sizes.count) + length (end_line (fault_code f) (fault_place f))
   length_fault =
-      elim (dec_eq f.code 13) [
+      elim (dec_eq (fault_code f) 13) [
         | yes e ↦ omega (arith, ap length (end_alone e))
-        | no e ↦ omega (arith, ap length (both_lines e), length-append (job_line sizes.order sizes.block sizes.count) (end_line f.code f.place))
+        | no e ↦ omega (arith, ap length (both_lines e), length-append (job_line sizes.order sizes.block sizes.count) (end_line (fault_code f) (fault_place f)))
       ]

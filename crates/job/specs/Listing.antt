@@ -13,7 +13,8 @@ pub use Rattle.text.specs.Decimals.{space, line_feed, digits, decimal}
 use Rattle.job_format.specs.declared.Fault.{Fault}
 use Rattle.job_format.specs.declared.Sizes.{Sizes}
 use Rattle.job_format.specs.declared.Zeros.TheVariants.{Needless}
-use Rattle.job_format.specs.Reading.{Parsed, fault, found}
+use Rattle.job_format.specs.declared.contents.Job as lent
+use Rattle.job_format.specs.Reading.{Parsed, fault, found, fault_code, fault_place}
 use Rattle.job_format.specs.Format.{Contents, read_sizes, read_contents}
 
 -- ---- values
@@ -29,6 +30,10 @@ floats bits = map (of_bits binary64) bits
 
 abbrev pub job_of : Contents → Job
 job_of read = record { sizes = read.sizes; matrix = floats read.matrix; rhs = floats read.rhs }
+
+-- what a job's memory holds
+abbrev pub held : lent.Job Float → Job
+held job = record { sizes = job.sizes; matrix = job.matrix.now; rhs = job.rhs.now }
 
 -- ---- numbers
 
@@ -82,7 +87,7 @@ result_lines sizes verdict matrix rhs =
     ++ end_line verdict.code verdict.place
 
 unfoldable pub fault_lines : Sizes → Fault → List ℕ
-fault_lines sizes f = cond (eqb f.code 13) [] (job_line sizes.order sizes.block sizes.count) ++ end_line f.code f.place
+fault_lines sizes f = cond (eqb (fault_code f) 13) [] (job_line sizes.order sizes.block sizes.count) ++ end_line (fault_code f) (fault_place f)
 
 unfoldable pub listing_of : Job → List ℕ
 listing_of job = result_lines job.sizes (job_verdict job) (job_ended job).matrix (job_ended job).rhs
@@ -94,7 +99,7 @@ listed sizes (found job at) = listing_of (job_of job)
 
 -- a job whose sizes could not be read has no first line
 abbrev pub listed_from : List ℕ → Parsed Sizes → List ℕ
-listed_from file (fault f) = end_line f.code f.place
+listed_from file (fault f) = end_line (fault_code f) (fault_place f)
 listed_from file (found sizes at) = listed sizes (read_contents Needless file sizes at)
 
 unfoldable pub listing : List ℕ → List ℕ

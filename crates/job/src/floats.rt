@@ -1,10 +1,13 @@
-// Values and their bits, NaN included: every NaN pattern is read as one value, which is written as one pattern.
+// Values and their bits, NaN included: every NaN pattern is read as one value, which is written as one pattern. std converts numbers alone: `from_bits`
+// and `to_bits` require that there is no NaN.
 ghost use Rattle.std.specs.Prelude.{◌≡◌, length};
 ghost use Rattle.std.specs.Float.{binary64};
 ghost use Rattle.std.specs.Float.Ieee.{of_bits, to_bits};
-ghost use Rattle.job.specs.Listing.{floats};
+ghost use Rattle.job_format.specs.Format.{contents};
+ghost use Rattle.job.specs.Listing.{floats, job_of, held};
 
 use binary64::{Kind, kind_of, kind_of_bits};
+use job_format::Job;
 
 pub fn float_of(bits: u64) -> f64
     ensures { result ≡ of_bits binary64 bits }
@@ -24,13 +27,20 @@ pub fn bits_of(v: f64) -> u64
     }
 }
 
-pub fn floats_of(bits: &[u64], out: &mut [f64])
+fn floats_of(bits: &[u64], out: &mut [f64])
     requires { length bits.now ≡ length out.old }
     ensures { out.new ≡ floats bits.now }
 {
-    let mut k = 0;
-    while k < bits.len() {
-        out[k] = float_of(bits[k]);
-        k += 1;
+    for (k, v) in out.iter_mut().enumerate() {
+        *v = float_of(bits[k]);
     }
+}
+
+// A job's values from their bits.
+pub fn fill(job: &mut Job<'_, f64>, bits: &Job<'_, u64>)
+    requires { job.old.sizes ≡ bits.now.sizes }
+    ensures { held job.new ≡ job_of (contents bits.now) }
+{
+    floats_of(bits.matrix, job.matrix);
+    floats_of(bits.rhs, job.rhs);
 }

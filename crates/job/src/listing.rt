@@ -1,116 +1,93 @@
-// Text written to the output buffer at a position. Each writer returns the position after its text.
+// The lines of a listing.
 ghost use Rattle.std.specs.Prelude.{◌≡◌, ◌+◌, ◌*◌, ◌≤◌, ◌<◌, length};
-ghost use Rattle.text.specs.Writing.{Written};
-ghost use Rattle.job.specs.Listing.{hex_digit, hexadecimal, job_line, value_line, value_lines, end_line, solution_lines, result_lines, fault_lines};
+ghost use Rattle.text.specs.Writing.{Puts};
+ghost use Rattle.job_format.specs.Reading.{fault_code, fault_place};
+ghost use Rattle.job.specs.Listing.{hex_digit, hexadecimal, job_line, value_line, value_lines, end_line, solution_lines, result_lines, fault_lines, held};
 
 use crate::floats::bits_of;
 use calls::Verdict;
-use job_format::{Fault, MALFORMED, Sizes};
-use text::{put_byte, put_number, put_text};
+use job_format::{Fault, Job, Sizes};
+use text::Writer;
 
-fn hex_digit(d: u64) -> u8
+fn hex_digit(d: u8) -> u8
     requires { d < 16 }
     ensures { result ≡ hex_digit d }
 {
-    if d < 10 {
-        return 48 + d as u8;
-    }
-    55 + d as u8
+    if d < 10 { b'0' + d } else { b'A' + (d - 10) }
 }
 
-fn put_hexadecimal(out: &mut [u8], at: usize, v: f64) -> usize
-    requires { at + 16 ≤ length out.old }
-    ensures { Written at (hexadecimal v) out.old result out.new }
+// The digits are worked out here, as those of decimal numbers are: no clause of std says that `write!` is Ok.
+fn put_hexadecimal(writer: &mut Writer, v: f64)
+    requires { writer.old.at + 16 ≤ length writer.old.out.now }
+    ensures { Puts (hexadecimal v) writer.old writer.new }
 {
     let bits = bits_of(v);
-    let mut i = 0;
-    while i < 16 {
-        out[at + i] = hex_digit((bits >> (60 - 4 * i)) % 16);
-        i += 1;
+    for i in 0..16u32 {
+        writer.put_byte(hex_digit(((bits >> (60 - 4 * i)) % 16) as u8));
     }
-    at + i
 }
 
-pub fn put_job(out: &mut [u8], at: usize, n: usize, b: usize, m: usize) -> usize
-    requires { at + length (job_line n b m) ≤ length out.old }
-    ensures { Written at (job_line n b m) out.old result out.new }
+fn put_sizes(writer: &mut Writer, sizes: Sizes)
+    requires { writer.old.at + length (job_line sizes.order sizes.block sizes.count) ≤ length writer.old.out.now }
+    ensures { Puts (job_line sizes.order sizes.block sizes.count) writer.old writer.new }
 {
-    let next = put_text(out, at, b"JOB ");
-    let next = put_number(out, next, n, b' ');
-    let next = put_number(out, next, b, b' ');
-    put_number(out, next, m, b'\n')
+    writer.put_text(b"JOB ");
+    writer.put_number(sizes.order, b' ');
+    writer.put_number(sizes.block, b' ');
+    writer.put_number(sizes.count, b'\n');
 }
 
-// A line of a head of 2 bytes, 16 digits and a line feed.
-fn put_value(out: &mut [u8], at: usize, head: &[u8], v: f64) -> usize
-    requires head_len { length head.now ≡ 2 }
-    requires at_in_bounds { at + 19 ≤ length out.old }
-    ensures { Written at (value_line head.now v) out.old result out.new }
+// A line of a head, 16 digits and a line feed.
+fn put_value(writer: &mut Writer, head: &[u8; 2], v: f64)
+    requires { writer.old.at + 19 ≤ length writer.old.out.now }
+    ensures { Puts (value_line head.now v) writer.old writer.new }
 {
-    let next = put_text(out, at, head);
-    let next = put_hexadecimal(out, next, v);
-    put_byte(out, next, b'\n')
+    writer.put_text(head);
+    put_hexadecimal(writer, v);
+    writer.put_byte(b'\n');
 }
 
-pub fn put_values(out: &mut [u8], at: usize, head: &[u8], values: &[f64]) -> usize
-    requires head_len { length head.now ≡ 2 }
-    requires values_in_bounds { at + 19 * length values.now ≤ length out.old }
-    ensures { Written at (value_lines head.now values.now) out.old result out.new }
+// As `put_values` of job_format, whose pieces are bytes: a loop that both shared would take a closure with a contract as long as either.
+fn put_values(writer: &mut Writer, head: &[u8; 2], values: &[f64])
+    requires { writer.old.at + 19 * length values.now ≤ length writer.old.out.now }
+    ensures { Puts (value_lines head.now values.now) writer.old writer.new }
 {
-    let mut next = at;
-    let mut k = 0;
-    while k < values.len() {
-        next = put_value(out, next, head, values[k]);
-        k += 1;
+    for v in values {
+        put_value(writer, head, *v);
     }
-    next
 }
 
-pub fn put_end(out: &mut [u8], at: usize, code: usize, place: usize) -> usize
-    requires { at + length (end_line code place) ≤ length out.old }
-    ensures { Written at (end_line code place) out.old result out.new }
+pub fn put_end(writer: &mut Writer, code: usize, place: usize)
+    requires { writer.old.at + length (end_line code place) ≤ length writer.old.out.now }
+    ensures { Puts (end_line code place) writer.old writer.new }
 {
-    let next = put_text(out, at, b"END ");
-    let next = put_number(out, next, code, b' ');
-    put_number(out, next, place, b'\n')
+    writer.put_text(b"END ");
+    writer.put_number(code, b' ');
+    writer.put_number(place, b'\n');
 }
 
-// The matrix, then the right-hand sides.
-fn put_solution(out: &mut [u8], at: usize, matrix: &[f64], rhs: &[f64]) -> usize
-    requires { at + length (solution_lines matrix.now rhs.now) ≤ length out.old }
-    ensures { Written at (solution_lines matrix.now rhs.now) out.old result out.new }
+// The listing of a job that was read, with its verdict, of which it prints code and place, and its memory at the pipeline's end: the matrix, then the
+// right-hand sides.
+pub fn put_result(writer: &mut Writer, job: &Job<'_, f64>, verdict: Verdict)
+    requires { writer.old.at + length (result_lines job.now.sizes verdict job.now.matrix.now job.now.rhs.now) ≤ length writer.old.out.now }
+    ensures { Puts (result_lines job.now.sizes verdict job.now.matrix.now job.now.rhs.now) writer.old writer.new }
 {
-    let next = put_values(out, at, b"F ", matrix);
-    put_values(out, next, b"X ", rhs)
-}
-
-// The listing of a job that was read, with its verdict and its memory at the pipeline's end.
-pub fn put_result(
-    out: &mut [u8],
-    sizes: Sizes,
-    verdict: Verdict,
-    matrix: &[f64],
-    rhs: &[f64],
-) -> usize
-    requires { length (result_lines sizes verdict matrix.now rhs.now) ≤ length out.old }
-    ensures { Written 0 (result_lines sizes verdict matrix.now rhs.now) out.old result out.new }
-{
-    let next = put_job(out, 0, sizes.order, sizes.block, sizes.count);
-    if verdict.code != 0 {
-        return put_end(out, next, verdict.code, verdict.place);
+    put_sizes(writer, job.sizes);
+    if verdict.code == 0 {
+        put_values(writer, b"F ", job.matrix);
+        put_values(writer, b"X ", job.rhs);
     }
-    let next = put_solution(out, next, matrix, rhs);
-    put_end(out, next, verdict.code, verdict.place)
+    put_end(writer, verdict.code, verdict.place);
 }
 
 // The listing of a job with a fault: its first line is left out where the file is no job.
-pub fn put_fault(out: &mut [u8], sizes: Sizes, fault: Fault) -> usize
-    requires { length (fault_lines sizes fault) ≤ length out.old }
-    ensures { Written 0 (fault_lines sizes fault) out.old result out.new }
+pub fn put_fault(writer: &mut Writer, sizes: Sizes, fault: Fault)
+    requires { writer.old.at + length (fault_lines sizes fault) ≤ length writer.old.out.now }
+    ensures { Puts (fault_lines sizes fault) writer.old writer.new }
 {
-    if fault.code == MALFORMED {
-        return put_end(out, 0, fault.code, fault.place);
+    match fault {
+        Fault::Malformed(_) => {}
+        Fault::NeedlessZero(_) => put_sizes(writer, sizes),
     }
-    let next = put_job(out, 0, sizes.order, sizes.block, sizes.count);
-    put_end(out, next, fault.code, fault.place)
+    put_end(writer, fault.code(), fault.place());
 }

@@ -275,10 +275,11 @@ module _ (file matrix : List ℕ) (n : ℕ) (entries : length matrix ≡ triangl
     held_map there = go (triangle n % 8) refl
       where
         go : (s : ℕ) → triangle n % 8 ≡ s → found tt (5 + (triangle n + 7) / 8) ≡ read_map file n 5
-        go zero z = map_whole file n 5 (triangle n) refl there z
+        go zero z = map_whole file n 5 (triangle n) ((triangle n + 7) / 8) refl refl there z
         go (suc s) z =
             let k : 5 + ((triangle n + 7) / 8 - 1) ≡ 5 + (triangle n + 7) / 8 - 1 = omega arith in
-            map_padded file n 5 (triangle n) refl (byte_at file ((triangle n + 7) / 8 - 1)) there (λ e. omega arith) (ap (λ (i : ℕ). get_or file i 0) k) (last_byte (omega arith))
+            map_padded file n 5 (triangle n) ((triangle n + 7) / 8) refl refl there (λ e. omega arith)
+            (ap (λ (i : ℕ). get_or file i 0 / 2 ^ (triangle n % 8)) (sym k) ∙ last_byte (omega arith))
 
 -- ---- the whole
 

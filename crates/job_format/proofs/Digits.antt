@@ -1,19 +1,17 @@
 -- A number as bytes, least byte first, and as bits, lowest bit first: both ways, and as loops write them. Assumes nothing.
 use Prim.Native.Nat.{ℕ, zero, suc, ◌+◌, ◌-◌, ◌*◌, ◌/◌, ◌%◌, ◌^◌, ◌≤◌, ◌<◌}
 use native.Mathlib.Nat.{pow-suc, pow-zero, div-one, div-div-eq-div-mul}
-use native.Mathlib.Numerals.{add-one}
 use native.Mathlib.Omega.{arith}
 use mathlib.Core.Path.{◌≡◌, refl, sym, ap, ◌∙◌, subst}
 use mathlib.Core.Bool.{Bool, true, false, cond, ◌&&◌}
 use mathlib.Core.List.{List, [], ◌∷◌, ◌++◌}
 use lib.Dec.{T, eqb, ltb, ltb→lt}
-use lib.ListN.{length, get_or, take, drop, set}
+use lib.ListN.{length, get_or, take, drop, replicate}
 use lib.Pow.{are_bytes, pow_mono, pow_pos}
 use borrow.Author.Tests.{lt-ltb}
 use Rattle.job_format.specs.Reading.{little_endian}
-use Rattle.text.specs.Writing.{Written}
 use Rattle.job_format.specs.Rewriting.{bytes_of, bits_from}
-use Rattle.text.proofs.Texts.{then, as_text, nothing_written, byte_written, length_written}
+use Rattle.std.specs.Int.{w16, w64, from_bool, byte_at, bytes_low_first, to_le_bytes, from_le_bytes}
 
 -- ---- bytes
 
@@ -69,59 +67,52 @@ bytes_drop zero xs h = h
 bytes_drop (suc k) [] h = tt
 bytes_drop (suc k) (x ∷ xs) h = bytes_drop k xs (bytes_cons x xs h).1
 
--- one byte more, at the end
-bytes_next : (i v : ℕ) → bytes_of (suc i) v ≡ bytes_of i v ++ (v / 256 ^ i % 256 ∷ [])
+-- the first bytes that std gives of a number
+first_bytes : (k m i v : ℕ) → k ≤ m → take k (bytes_low_first i m v) ≡ bytes_of k (v / 256 ^ i)
 unfolding bytes_of
-bytes_next zero v = ap (λ (x : ℕ). x % 256 ∷ []) (sym (ap (λ (x : ℕ). v / x) (pow-zero 256) ∙ div-one v))
-bytes_next (suc i) v =
-    let e : v / 256 / 256 ^ i ≡ v / 256 ^ suc i = div-div-eq-div-mul v 256 (256 ^ i) ∙ ap (λ (x : ℕ). v / x) (omega (arith, pow-suc 256 i)) in
-    ap (λ (l : List ℕ). v % 256 ∷ l) (bytes_next i (v / 256) ∙ ap (λ (x : ℕ). bytes_of i (v / 256) ++ (x % 256 ∷ [])) e)
+first_bytes zero m i v h = refl
+first_bytes (suc k) zero i v h = absurd (omega arith)
+first_bytes (suc k) (suc m) i v h =
+    let q : v / 256 ^ suc i ≡ v / 256 ^ i / 256 = sym (div-div-eq-div-mul v (256 ^ i) 256 ∙ ap (λ (x : ℕ). v / x) (sym (pow-suc 256 i))) in
+    rw (byte_is i v, first_bytes k m (suc i) v (omega arith), q)
+  where
+    byte_is : (i v : ℕ) → byte_at i v ≡ v / 256 ^ i % 256
+    byte_is zero v = ap (λ (x : ℕ). x % 256) (sym (ap (λ (x : ℕ). v / x) (pow-zero 256) ∙ div-one v))
+    byte_is (suc i) v = refl
 
--- a loop that writes the bytes of a number: i of them are there
-pub record FieldTo (a : List ℕ) (at width value : ℕ) (out : List ℕ) (rest i : ℕ) : Type 0 where
-  pub within : i ≤ width
-  pub kept : length out ≡ length a
-  pub left : rest ≡ value / 256 ^ i
-  pub written : Written at (bytes_of i value) a (at + i) out
+pub low_bytes : (k v : ℕ) → k ≤ 8 → take k (to_le_bytes w64 v) ≡ bytes_of k v
+low_bytes k v h = first_bytes k 8 0 v h ∙ ap (bytes_of k) (ap (λ (x : ℕ). v / x) (pow-zero 256) ∙ div-one v)
 
-pub field_none : (a : List ℕ) (at width value : ℕ) → FieldTo a at width value a value 0
+pub two_bytes : (v : ℕ) → to_le_bytes w16 v ≡ bytes_of 2 v
 unfolding bytes_of
-field_none a at width value =
-    let e : at + 0 ≡ at = omega arith in
-    record {
-      within = omega arith;
-      kept = refl;
-      left = sym (ap (λ (x : ℕ). value / x) (pow-zero 256) ∙ div-one value);
-      written = rw e (nothing_written at a);
-    }
+two_bytes v = refl
 
-module _ (a : List ℕ) (at width value : ℕ) (fits : at + width ≤ length a) (out : List ℕ) (rest i : ℕ) (r : FieldTo a at width value out rest i) where
-  pub field_turn : (d : ℕ) → i < width → d ≡ rest % 256 → FieldTo a at width value (set out (at + i) d) (rest / 256) (i + 1)
-  field_turn d h e =
-      let room : at + length (bytes_of i value) ≤ length a = omega (arith, length_bytes i value) in
-      let both : Written at (bytes_of i value ++ (d ∷ [])) a (at + i + 1) (set out (at + i) d) =
-      then r.written (byte_written out (at + i) d (omega (arith, r.kept))) room in
-      let v : d ≡ value / 256 ^ i % 256 = e ∙ ap (λ (x : ℕ). x % 256) r.left in
-      let t : bytes_of (i + 1) value ≡ bytes_of i value ++ (d ∷ []) =
-      ap (λ (k : ℕ). bytes_of k value) (add-one i) ∙ bytes_next i value ∙ ap (λ (x : ℕ). bytes_of i value ++ (x ∷ [])) (sym v) in
-      let p : at + (i + 1) ≡ at + i + 1 = omega arith in
-      let all : Written at (bytes_of (i + 1) value) a (at + (i + 1)) (set out (at + i) d) = rw (p, t) both in
-      record {
-        within = omega arith;
-        kept = length_written (omega (arith, length_bytes (i + 1) value)) all;
-        left =
-            ap (λ (x : ℕ). x / 256) r.left ∙ div-div-eq-div-mul value (256 ^ i) 256
-            ∙ ap (λ (x : ℕ). value / x) (sym (pow-suc 256 i) ∙ ap (λ (k : ℕ). 256 ^ k) (sym (add-one i)));
-        written = all;
-      }
+pub one_byte : (v : ℕ) → v < 256 → v ∷ [] ≡ bytes_of 1 v
+unfolding bytes_of
+one_byte v h = let e : v ≡ v % 256 = omega arith in ap (λ (x : ℕ). x ∷ []) e
 
-  pub field_done : width ≤ i → Written at (bytes_of width value) a (at + i) out
-  field_done h = let e : i ≡ width = omega (arith, r.within) in as_text (ap (λ (k : ℕ). bytes_of k value) e) r.written
+-- bytes and zeros after them give the number of the bytes
+pub padded_number : (xs : List ℕ) (k : ℕ) → little_endian (xs ++ replicate k 0) ≡ little_endian xs
+unfolding little_endian
+padded_number [] zero = refl
+padded_number [] (suc k) = omega (arith, padded_number [] k)
+padded_number (x ∷ xs) k = ap (λ (n : ℕ). x + 256 * n) (padded_number xs k)
+
+-- the number that std gives of eight bytes
+pub eight_number : (xs : List ℕ) → length xs ≤ 8 → from_le_bytes w64 xs ≡ little_endian xs
+unfolding little_endian
+eight_number (a ∷ b ∷ c ∷ d ∷ e ∷ f ∷ g ∷ h ∷ []) n = omega arith
+eight_number xs n = omega arith
 
 -- ---- bits
 
 abbrev pub bit : Bool → ℕ
 bit b = cond b 1 0
+
+-- a bool as a byte
+pub bit_from : (b : Bool) → from_bool b ≡ bit b
+bit_from true = refl
+bit_from false = refl
 
 bit_below : (b : Bool) → bit b < 2
 bit_below true = omega arith

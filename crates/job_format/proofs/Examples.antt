@@ -7,7 +7,7 @@ use lib.ListN.{length, take, replicate}
 use Rattle.calls.specs.Sequences.{iterate, grow, tabulate}
 use Rattle.shape.specs.Places.{triangle}
 use Rattle.text.proofs.Comparisons.{same}
-use Rattle.job_format.specs.Reading.{Parsed, fault, found, little_endian, field, bounded, needless, value, values}
+use Rattle.job_format.specs.Reading.{Parsed, fault, found, fault_code, fault_place, little_endian, field, bounded, needless, value, values}
 use Rattle.job_format.specs.Format.{read_sizes, map_bytes, map_bit, padded, read_map, read_values, read_contents, read_job}
 use Rattle.job_format.specs.Rewriting.{bytes_of, sizes_bytes, bits_from, stands, map_of, value_bytes, values_bytes, job_bytes, written, rewritten}
 
@@ -36,7 +36,7 @@ row b o = record { bytes = b; outcome = o }
 right : Parsed (List ℕ) → Outcome → Bool
 unfolding same
 right (found text end) (becomes bytes) = same text bytes && eqb end (length bytes)
-right (fault f) (malformed place) = eqb f.code 13 && eqb f.place place
+right (fault f) (malformed place) = eqb (fault_code f) 13 && eqb (fault_place f) place
 right (found text end) (malformed place) = false
 right (fault f) (becomes bytes) = false
 

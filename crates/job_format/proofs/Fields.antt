@@ -5,13 +5,19 @@ use native.Mathlib.Omega.{arith}
 use native.Mathlib.Decide.{dec_lt}
 use mathlib.Core.Path.{◌≡◌, refl, sym, ap, ◌∙◌}
 use mathlib.Core.Bool.{Bool, true, false}
-use mathlib.Core.List.{List}
-use lib.ListN.{length, take, drop, set, length-set}
-use lib.Seq.{take-suc-set, take_all}
+use mathlib.Core.List.{List, ◌++◌}
+use lib.ListN.{length, take, drop, set, replicate, length-set, length-append, length-drop, length-replicate}
+use lib.Seq.{take-suc-set, length-take-le}
+use Rattle.std.specs.Int.{w64, from_le_bytes}
+use Rattle.std.specs.Prelude.{Result}
+use Rattle.std.specs.Result.{IsErrAnd}
+use Rattle.std.proofs.lemmas.Result.{err_from_is_err_and}
+use Rattle.std.proofs.lemmas.List.{drop-replicate}
 use borrow.Author.Tests.{le-leb, lt-leb}
 use Rattle.job_format.specs.declared.Fault.{Fault}
 use Rattle.job_format.specs.declared.Zeros.{Zeros}
-use Rattle.job_format.specs.Reading.{Parsed, fault, found, and_then, require, malformed, needless_zero, little_endian, field, bounded, needless, value, values}
+use Rattle.job_format.specs.Reading.{Parsed, fault, found, and_then, require, malformed, needless_zero, little_endian, field, bounded, needless, value, values, parsed, parsed_as}
+use Rattle.job_format.proofs.Digits.{padded_number, eight_number}
 
 -- ---- steps
 
@@ -28,6 +34,14 @@ pub require_found : {A : Type 0} (t : Bool) (f : Fault) (p : Parsed A) (b : A) (
 require_found true f p b end e = (refl, e)
 require_found false f p b end e = fault_found e
 
+-- a fault that `?` hands on
+module _ {B : Type 0} (f : Fault) (at : ℕ) (p : Parsed B) (h : fault f ≡ p) where
+  pub handed_on : (r : Result B Fault) → IsErrAnd r (λ y. y ≡ f) → parsed r at ≡ p
+  handed_on r e = let q = err_from_is_err_and r e in rw (q.1, q.2) h
+
+  pub handed_on_as : (b : B) (r : Result (Unit {0}) Fault) → IsErrAnd r (λ y. y ≡ f) → parsed_as b r at ≡ p
+  handed_on_as b r e = let q = err_from_is_err_and r e in rw (q.1, q.2) h
+
 -- ---- a field
 
 module _ (file : List ℕ) (at width : ℕ) where
@@ -39,11 +53,17 @@ module _ (file : List ℕ) (at width : ℕ) where
   unfolding field
   field_short h = rw (lt-leb (at + width) (length file) h)
 
-  -- the field as a part of the file
-  pub field_read : (v : ℕ) → at + width ≤ length file → v ≡ little_endian (take (at + width - at) (drop at file)) → found v (at + width) ≡ field file at width
-  field_read v h e =
-      let w : at + width - at ≡ width = omega arith in
-      ap (λ (x : ℕ). found x (at + width)) (e ∙ ap (λ (k : ℕ). little_endian (take k (drop at file))) w) ∙ sym (field_there h)
+  -- the field's bytes, copied to the front of eight zeros
+  pub field_copied :
+      (part : List ℕ) (v : ℕ) → width ≤ 8 → at + width ≤ length file → part ≡ take width (drop at file) →
+      v ≡ from_le_bytes w64 (part ++ drop width (replicate 8 0)) → found v (at + width) ≡ field file at width
+  field_copied part v short h p f =
+      let n : length part ≡ width = ap length p ∙ length-take-le width (drop at file) (omega (arith, length-drop at file)) in
+      let zeros : List ℕ = replicate (8 - width) 0 in
+      let z : drop width (replicate 8 0) ≡ zeros = drop-replicate width 8 0 in
+      let all : length (part ++ zeros) ≤ 8 = omega (arith, length-append part zeros, length-replicate {A = ℕ} (8 - width) 0, n) in
+      let number : v ≡ little_endian part = f ∙ ap (λ (r : List ℕ). from_le_bytes w64 (part ++ r)) z ∙ eight_number (part ++ zeros) all ∙ padded_number part (8 - width) in
+      ap (λ (x : ℕ). found x (at + width)) (number ∙ ap little_endian p) ∙ sym (field_there h)
 
   -- ---- a bounded field
 
@@ -132,13 +152,3 @@ module _ (zeros : Zeros) (file : List ℕ) (present : ℕ → Bool) (at : ℕ) w
       let w = r.read in
       let q : values zeros file present (suc k) at ≡ fault p = rw (w, ← e) in
       sym (values_fault p (suc k) size (omega (arith, r.kept)) q)
-
-  pub read_all :
-      (size next k : ℕ) (out : List ℕ) →
-      ReadTo zeros file present at size out next k →
-      length out ≤ k →
-      found out next ≡ values zeros file present size at
-  read_all size next k out r h =
-      let e : size ≡ k = omega (arith, r.kept, r.within) in
-      let t : take k out ≡ out = take_all k out h in
-      sym (ap (λ (j : ℕ). values zeros file present j at) e ∙ r.read ∙ ap (λ (l : List ℕ). found l next) t)

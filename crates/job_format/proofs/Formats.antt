@@ -9,12 +9,16 @@ use lib.Dec.{leb, eqb}
 use lib.ListN.{length, get_or, get_or-eq_default}
 use borrow.Author.Tests.{le-leb, lt-leb, leb-true, eq-eqb, ne_eqb}
 use Rattle.shape.specs.Places.{triangle}
+use Rattle.std.specs.Prelude.{Result}
+use Rattle.std.specs.Result.{IsErrAnd}
+use Rattle.std.proofs.lemmas.Result.{err_from_is_err_and}
 use Rattle.job_format.specs.declared.Sizes.{Sizes}
+use Rattle.job_format.specs.declared.reader.Reader.{Reader}
 use Rattle.job_format.specs.declared.Fault.{Fault}
 use Rattle.job_format.specs.declared.Zeros.{Zeros}
 use Rattle.job_format.specs.declared.Zeros.TheVariants.{Kept}
 use Rattle.job_format.specs.Reading.{Parsed, fault, found, malformed, field, bounded, values}
-use Rattle.job_format.specs.Format.{Contents, InBounds, map_bytes, map_bit, padded, present_in, read_sizes, read_map, read_values, read_contents, read_job}
+use Rattle.job_format.specs.Format.{Contents, InBounds, map_bytes, map_bit, padded, read_sizes, read_map, read_values, read_contents, read_job, parsed_sizes}
 use Rattle.job_format.proofs.Fields.{then_found, require_found}
 
 -- ---- lengths: at most 2,080 entries and 1,024 right-side values
@@ -37,24 +41,24 @@ values_fit sizes within size e = omega (arith, values_small sizes.order sizes.co
 
 -- ---- the map
 
--- t values, of which the map has a bit each
-module _ (file : List ℕ) (n at t : ℕ) (e : t ≡ triangle n) where
-  pub map_short : length file < at + (t + 7) / 8 → fault (malformed (length file)) ≡ read_map file n at
+-- t values, of which the map has a bit each, in m bytes
+module _ (file : List ℕ) (n at t m : ℕ) (e : t ≡ triangle n) (k : m ≡ (t + 7) / 8) where
+  pub map_short : length file < at + m → fault (malformed (length file)) ≡ read_map file n at
   unfolding read_map map_bytes
-  map_short h = rw (← e, lt-leb (at + (t + 7) / 8) (length file) h)
+  map_short h = rw (← e, ← k, lt-leb (at + m) (length file) h)
 
-  pub map_whole : at + (t + 7) / 8 ≤ length file → t % 8 ≡ 0 → found tt (at + (t + 7) / 8) ≡ read_map file n at
+  pub map_whole : at + m ≤ length file → t % 8 ≡ 0 → found tt (at + m) ≡ read_map file n at
   unfolding read_map map_bytes padded
-  map_whole h z = rw (← e, le-leb (at + (t + 7) / 8) (length file) h, eq-eqb (t % 8) 0 z)
+  map_whole h z = rw (← e, ← k, le-leb (at + m) (length file) h, eq-eqb (t % 8) 0 z)
 
-  module _ (b : ℕ) (h : at + (t + 7) / 8 ≤ length file) (z : t % 8 ≡ 0 → ⊥) (last : b ≡ get_or file (at + (t + 7) / 8 - 1) 0) where
-    pub map_unpadded : (b / 2 ^ (t % 8) ≡ 0 → ⊥) → fault (malformed (at + (t + 7) / 8 - 1)) ≡ read_map file n at
+  module _ (h : at + m ≤ length file) (z : t % 8 ≡ 0 → ⊥) where
+    pub map_unpadded : (get_or file (at + m - 1) 0 / 2 ^ (t % 8) ≡ 0 → ⊥) → fault (malformed (at + m - 1)) ≡ read_map file n at
     unfolding read_map map_bytes padded
-    map_unpadded x = rw (← e, le-leb (at + (t + 7) / 8) (length file) h, ne_eqb (t % 8) 0 z, ← last, ne_eqb (b / 2 ^ (t % 8)) 0 x)
+    map_unpadded x = rw (← e, ← k, le-leb (at + m) (length file) h, ne_eqb (t % 8) 0 z, ne_eqb (get_or file (at + m - 1) 0 / 2 ^ (t % 8)) 0 x)
 
-    pub map_padded : b / 2 ^ (t % 8) ≡ 0 → found tt (at + (t + 7) / 8) ≡ read_map file n at
+    pub map_padded : get_or file (at + m - 1) 0 / 2 ^ (t % 8) ≡ 0 → found tt (at + m) ≡ read_map file n at
     unfolding read_map map_bytes padded
-    map_padded x = rw (← e, le-leb (at + (t + 7) / 8) (length file) h, ne_eqb (t % 8) 0 z, ← last, eq-eqb (b / 2 ^ (t % 8)) 0 x)
+    map_padded x = rw (← e, ← k, le-leb (at + m) (length file) h, ne_eqb (t % 8) 0 z, eq-eqb (get_or file (at + m - 1) 0 / 2 ^ (t % 8)) 0 x)
 
 pub bit_past : (file : List ℕ) (p : ℕ) → length file ≤ 5 + p / 8 → false ≡ map_bit file p
 unfolding map_bit
@@ -64,28 +68,26 @@ pub bit_at : (file : List ℕ) (p b : ℕ) → b ≡ get_or file (5 + p / 8) 0 �
 unfolding map_bit
 bit_at file p b e = rw e
 
-pub present_mapped : (file : List ℕ) (mapped : Bool) (k : ℕ) (r : Bool) → mapped ≡ true → r ≡ map_bit file k → r ≡ present_in file mapped k
-present_mapped file mapped k r e h = rw e h
-
-pub present_all : (file : List ℕ) (mapped : Bool) (k : ℕ) → mapped ≡ false → true ≡ present_in file mapped k
-present_all file mapped k e = rw e
-
 -- ---- the sizes
 
 module _ (file : List ℕ) where
-  pub sizes_fault_order : (p : Fault) → fault p ≡ bounded file 0 2 0 64 → fault p ≡ read_sizes file
+  -- a fault that `?` hands on
+  sizes_handed_on : (f : Fault) (r : Result (Sizes × Reader) Fault) → IsErrAnd r (λ y. y ≡ f) → fault f ≡ read_sizes file → parsed_sizes r ≡ read_sizes file
+  sizes_handed_on f r e h = let q = err_from_is_err_and r e in rw (q.1, q.2) h
+
+  pub sizes_fault_order : (p : Fault) (r : Result (Sizes × Reader) Fault) → IsErrAnd r (λ y. y ≡ p) → fault p ≡ bounded file 0 2 0 64 → parsed_sizes r ≡ read_sizes file
   unfolding read_sizes
-  sizes_fault_order p e = rw (← e)
+  sizes_fault_order p r h e = sizes_handed_on p r h (rw (← e))
 
   module _ (n at : ℕ) (order : found n at ≡ bounded file 0 2 0 64) where
-    pub sizes_fault_block : (p : Fault) → fault p ≡ bounded file at 2 1 200 → fault p ≡ read_sizes file
+    pub sizes_fault_block : (p : Fault) (r : Result (Sizes × Reader) Fault) → IsErrAnd r (λ y. y ≡ p) → fault p ≡ bounded file at 2 1 200 → parsed_sizes r ≡ read_sizes file
     unfolding read_sizes
-    sizes_fault_block p e = rw (← order, ← e)
+    sizes_fault_block p r h e = sizes_handed_on p r h (rw (← order, ← e))
 
     module _ (b next : ℕ) (block : found b next ≡ bounded file at 2 1 200) where
-      pub sizes_fault_count : (p : Fault) → fault p ≡ bounded file next 1 0 16 → fault p ≡ read_sizes file
+      pub sizes_fault_count : (p : Fault) (r : Result (Sizes × Reader) Fault) → IsErrAnd r (λ y. y ≡ p) → fault p ≡ bounded file next 1 0 16 → parsed_sizes r ≡ read_sizes file
       unfolding read_sizes
-      sizes_fault_count p e = rw (← order, ← block, ← e)
+      sizes_fault_count p r h e = sizes_handed_on p r h (rw (← order, ← block, ← e))
 
       pub sizes_found : (m end : ℕ) → found m end ≡ bounded file next 1 0 16 → found (record { order = n; block = b; count = m }) end ≡ read_sizes file
       unfolding read_sizes

@@ -1,10 +1,10 @@
 -- Laws of specs/Rewriting.antt: the parts of a job's bytes, their lengths, and how loops write them. Assumes nothing.
 use Prim.Native.Nat.{ℕ, ◌+◌, ◌*◌, ◌/◌, ◌≤◌}
 use native.Mathlib.Omega.{arith}
-use mathlib.Core.Path.{◌≡◌, refl, ap, subst}
+use mathlib.Core.Path.{◌≡◌, refl, ap}
 use mathlib.Core.Bool.{Bool, true, false}
 use mathlib.Core.List.{List, [], ◌++◌}
-use lib.ListN.{length, get_or, drop, length-append}
+use lib.ListN.{length, get_or, length-append}
 use Rattle.calls.specs.Sequences.{tabulate}
 use Rattle.calls.proofs.Sequences.{length_tabulate}
 use Rattle.shape.specs.Places.{triangle}
@@ -12,8 +12,10 @@ use Rattle.job_format.specs.declared.Sizes.{Sizes}
 use Rattle.job_format.specs.declared.Zeros.{Zeros}
 use Rattle.job_format.specs.declared.Zeros.TheVariants.{Kept, Needless}
 use Rattle.job_format.specs.declared.Fault.{Fault}
-use Rattle.job_format.specs.declared.Rewritten.{Rewritten}
-use Rattle.job_format.specs.Reading.{Parsed, fault, found, needless}
+use Rattle.std.specs.Prelude.{Result, Ok}
+use Rattle.std.specs.Result.{IsErrAnd}
+use Rattle.std.proofs.lemmas.Result.{err_from_is_err_and}
+use Rattle.job_format.specs.Reading.{fault, found, needless}
 use Rattle.job_format.specs.Format.{Contents, InBounds, read_job}
 use Rattle.text.specs.Writing.{Written, pieces}
 use Rattle.job_format.specs.Rewriting.{bytes_of, sizes_bytes, bits_from, stands, map_of, value_bytes, values_bytes, job_bytes, written, rewritten, Rewrites}
@@ -91,24 +93,13 @@ module _ (sizes : Sizes) (matrix rhs : List ℕ) (inside : InBounds sizes) (entr
 
 -- ---- what rewriting answers and leaves
 
-pub rewrites_fault : (p : Parsed Contents) (f : Fault) (a : List ℕ) → fault f ≡ p → Rewrites (written p) a (Rewritten.Fault f) a
-unfolding written
-rewrites_fault p f a e = rw (← e) (record { answer = refl; memory = refl })
+module _ (file a : List ℕ) where
+  pub rewrites_fault : (f : Fault) (r : Result ℕ Fault) → IsErrAnd r (λ y. y ≡ f) → fault f ≡ read_job Kept file → Rewrites (rewritten file) a r a
+  unfolding rewritten written
+  rewrites_fault f r h e = let q = err_from_is_err_and r h in rw (← e, q.1, q.2) (record { answer = refl; memory = refl })
 
-pub rewrites_job : (p : Parsed Contents) (job : Contents) (at end : ℕ) (a b : List ℕ) → found job at ≡ p → Written 0 (job_bytes job) a end b → Rewrites (written p) a (Rewritten.Job end) b
-unfolding written
-rewrites_job p job at end a b e w =
-    let n : end ≡ length (job_bytes job) = omega (arith, w.next) in
-    rw (← e) (record { answer = ap Rewritten.Job n; memory = w.memory })
-
-module _ (file a : List ℕ) (r : Rewritten) (b : List ℕ) where
-  pub rewrites_all : (p : Parsed Contents) → p ≡ read_job Kept file → Rewrites (written p) a r b → Rewrites (rewritten file) a r b
-  unfolding rewritten
-  rewrites_all p e w = subst (λ (q : Parsed Contents). Rewrites (written q) a r b) e w
-
--- what was written lies within the memory
-pub rewrites_within : (p : Parsed (List ℕ)) (a b : List ℕ) (r : Rewritten) (end : ℕ) → r ≡ Rewritten.Job end → Rewrites p a r b → end ≤ length b
-rewrites_within (fault f) a b r end j w = let z : ◌≡◌ {A = ℕ} 0 1 = cc w.answer in absurd (omega arith)
-rewrites_within (found text at) a b r end j w =
-    let n : end ≡ length text = cc w.answer in
-    omega (arith, ap length w.memory, length-append text (drop (0 + length text) a))
+  pub rewrites_job : (job : Contents) (at end : ℕ) (b : List ℕ) → found job at ≡ read_job Kept file → Written 0 (job_bytes job) a end b → Rewrites (rewritten file) a (Ok end) b
+  unfolding rewritten written
+  rewrites_job job at end b e w =
+      let n : end ≡ length (job_bytes job) = omega (arith, w.next) in
+      rw (← e) (record { answer = ap Ok n; memory = w.memory })

@@ -1,5 +1,4 @@
 -- Laws of what specs/ defines, which the functions' proofs cite.
-pub mod Numbers
 pub mod Fields
 pub mod Formats
 pub mod Digits

@@ -12,11 +12,10 @@ use lib.Pow.{are_bytes}
 use lib.Seq.{get_or_at}
 use borrow.Author.Tests.{leb-true, eqb-true}
 use Rattle.shape.specs.Places.{triangle}
-use Rattle.job_format.specs.declared.Fault.{Fault}
 use Rattle.job_format.specs.declared.Sizes.{Sizes}
 use Rattle.job_format.specs.declared.Zeros.{Zeros}
 use Rattle.job_format.specs.declared.Zeros.TheVariants.{Kept, Needless}
-use Rattle.job_format.specs.Reading.{Parsed, fault, found, and_then, require, malformed, needless_zero, little_endian, field, bounded, needless, value, values}
+use Rattle.job_format.specs.Reading.{Parsed, fault, found, and_then, require, malformed, needless_zero, fault_code, little_endian, field, bounded, needless, value, values}
 use Rattle.job_format.specs.Format.{Contents, InBounds, map_bytes, map_bit, padded, read_sizes, read_map, read_values, read_contents, read_job}
 use Rattle.job_format.specs.Rewriting.{job_bytes, written, rewritten, RefusedBy13, OnlyNeedlessZeros}
 use Rattle.job_format.proofs.Fields.{fault_found, then_found, require_found}
@@ -231,7 +230,7 @@ read_formerly file job at e =
 -- ---- the former rules refuse by 13 alone
 
 abbrev pub Under13 : {A : Type 0} → Parsed A → Type 0
-Under13 (fault f) = f.code ≡ 13
+Under13 (fault f) = fault_code f ≡ 13
 Under13 (found a at) = Unit {0}
 
 then_13 : {A B : Type 0} (p : Parsed A) (rest : A → ℕ → Parsed B) → Under13 p → ((a : A) (at : ℕ) → Under13 (rest a at)) → Under13 (and_then p rest)
@@ -286,6 +285,6 @@ refused_by_13 file f e =
     go (and_then (read_sizes file) (λ sizes at. read_contents Kept file sizes at))
     (then_13 (read_sizes file) _ (sizes_13 file) (λ sizes at. contents_13 file sizes at)) e
   where
-    go : (p : Parsed Contents) → Under13 p → and_then p (λ job at. found (job_bytes job) (length (job_bytes job))) ≡ fault f → (p ≡ fault f) × (f.code ≡ 13)
-    go (fault x) h q = let z : x ≡ f = cc in (ap fault z, ap (λ (y : Fault). y.code) (sym z) ∙ h)
+    go : (p : Parsed Contents) → Under13 p → and_then p (λ job at. found (job_bytes job) (length (job_bytes job))) ≡ fault f → (p ≡ fault f) × (fault_code f ≡ 13)
+    go (fault x) h q = let z : x ≡ f = cc in (ap fault z, ap fault_code (sym z) ∙ h)
     go (found job at) h q = let z : ◌≡◌ {A = ℕ} 0 1 = cc in absurd (omega arith)

@@ -1,12 +1,13 @@
 -- Document 01, "A job and its listing", and request (i) of document 02: the job's bytes, field by field, with their first fault, 13 or 18. Values are bit patterns.
-use Rattle.std.specs.Prelude.{ℕ, ◌+◌, ◌-◌, ◌*◌, ◌/◌, ◌%◌, ◌^◌, ◌≤◌, Bool, true, false, ◌||◌, List, leb, eqb, length, get_or}
+use Rattle.std.specs.Prelude.{ℕ, ◌+◌, ◌-◌, ◌*◌, ◌/◌, ◌%◌, ◌^◌, ◌≤◌, Bool, true, ◌||◌, List, Result, Ok, Err, leb, eqb, length, get_or}
 use Rattle.shape.specs.Bounds.{max_block}
 use Rattle.shape.specs.Places.{triangle}
 use Rattle.job_format.specs.declared.Sizes.{Sizes}
 use Rattle.job_format.specs.declared.Zeros.{Zeros}
 use Rattle.job_format.specs.declared.Zeros.TheVariants.{Kept}
-use Rattle.job_format.specs.declared.Head.{Head}
-use Rattle.job_format.specs.declared.Step.{Step}
+use Rattle.job_format.specs.declared.Fault.{Fault}
+use Rattle.job_format.specs.declared.contents.Job.{Job}
+use Rattle.job_format.specs.declared.reader.Reader.{Reader}
 use Rattle.job_format.specs.Reading.{Parsed, fault, found, and_then, require, malformed, bounded, values}
 
 abbrev pub max_job_order : ℕ
@@ -72,16 +73,11 @@ read_job zeros file = and_then (read_sizes file) (λ sizes at. read_contents zer
 
 -- ---- what the code's answers stand for
 
-abbrev pub parsed_sizes : Head → Parsed Sizes
-parsed_sizes (Head.Found sizes next) = found sizes next
-parsed_sizes (Head.Fault f) = fault f
+-- the sizes, and a reader that stands after them
+abbrev pub parsed_sizes : Result (Sizes × Reader) Fault → Parsed Sizes
+parsed_sizes (Ok (sizes, reader)) = found sizes reader.at
+parsed_sizes (Err f) = fault f
 
--- the answer to a field without a value of its own, or whose value is left in memory
-abbrev pub parsed_as : {A : Type 0} → A → Step → Parsed A
-parsed_as a (Step.Next next) = found a next
-parsed_as a (Step.Fault f) = fault f
-
--- which values are present: those whose bit stands in the map, or all
-abbrev pub present_in : List ℕ → Bool → ℕ → Bool
-present_in file true = map_bit file
-present_in file false = λ p. true
+-- what a job's memory holds
+abbrev pub contents : Job ℕ → Contents
+contents job = record { sizes = job.sizes; matrix = job.matrix.now; rhs = job.rhs.now }

@@ -1,9 +1,9 @@
 -- Reading from front to end, one field after another: what was read and the next position, or the first fault, its code and its place.
-use Rattle.std.specs.Prelude.{ℕ, zero, suc, ◌+◌, ◌*◌, Bool, false, cond, not, ◌&&◌, List, [], ◌∷◌, ◌++◌, leb, eqb, length, take, drop}
+use Rattle.std.specs.Prelude.{ℕ, zero, suc, ◌+◌, ◌*◌, Bool, false, cond, not, ◌&&◌, List, [], ◌∷◌, ◌++◌, Result, Ok, Err, leb, eqb, length, take, drop}
 use Rattle.job_format.specs.declared.Fault.{Fault}
+use Rattle.job_format.specs.declared.Fault.TheVariants.{Malformed, NeedlessZero}
 use Rattle.job_format.specs.declared.Zeros.{Zeros}
 use Rattle.job_format.specs.declared.Zeros.TheVariants.{Kept, Needless}
-use Rattle.job_format.specs.declared.Field.{Field}
 
 pub data Parsed (A : Type 0) : Type 0 where
   fault : Fault → Parsed A
@@ -19,10 +19,18 @@ require condition f rest = cond condition rest (fault f)
 
 -- 13: no job; 18: a standing bit over +0
 abbrev pub malformed : ℕ → Fault
-malformed place = record { code = 13; place = place }
+malformed place = Malformed place
 
 abbrev pub needless_zero : ℕ → Fault
-needless_zero place = record { code = 18; place = place }
+needless_zero place = NeedlessZero place
+
+abbrev pub fault_code : Fault → ℕ
+fault_code (Malformed place) = 13
+fault_code (NeedlessZero place) = 18
+
+abbrev pub fault_place : Fault → ℕ
+fault_place (Malformed place) = place
+fault_place (NeedlessZero place) = place
 
 -- least byte first
 unfoldable pub little_endian : List ℕ → ℕ
@@ -54,8 +62,13 @@ values zeros file present (suc k) at =
     and_then (value zeros file (present k) at) (λ bits next.
     found (before ++ (bits ∷ [])) next))
 
--- ---- what the code's answers stand for
+-- ---- what the code's answers stand for, with the position that a reader stands at
 
-abbrev pub parsed_field : Field → Parsed ℕ
-parsed_field (Field.Found value next) = found value next
-parsed_field (Field.Fault f) = fault f
+abbrev pub parsed : {A : Type 0} → Result A Fault → ℕ → Parsed A
+parsed (Ok a) next = found a next
+parsed (Err f) next = fault f
+
+-- the answer to a reading whose value is left in memory
+abbrev pub parsed_as : {A : Type 0} → A → Result (Unit {0}) Fault → ℕ → Parsed A
+parsed_as a (Ok _) next = found a next
+parsed_as a (Err f) next = fault f

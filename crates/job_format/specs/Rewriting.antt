@@ -1,5 +1,5 @@
 -- Request (i) of document 02: a job's bytes from its contents, with no bit over +0; what rewriting a stored job gives; and what holds of both.
-use Rattle.std.specs.Prelude.{ℕ, zero, suc, ◌+◌, ◌*◌, ◌/◌, ◌%◌, ◌^◌, ◌<◌, Bool, cond, not, List, [], ◌∷◌, ◌++◌, ◌⊎◌, ◌≡◌, T, eqb, length, get_or}
+use Rattle.std.specs.Prelude.{ℕ, zero, suc, ◌+◌, ◌*◌, ◌/◌, ◌%◌, ◌^◌, ◌<◌, Bool, cond, not, List, [], ◌∷◌, ◌++◌, Result, Ok, Err, ◌⊎◌, ◌≡◌, T, eqb, length, get_or}
 use Rattle.std.proofs.Math.Pow.{are_bytes}
 use Rattle.shape.specs.Places.{triangle}
 use Rattle.calls.specs.Sequences.{iterate, tabulate}
@@ -7,8 +7,7 @@ use Rattle.job_format.specs.declared.Fault.{Fault}
 use Rattle.job_format.specs.declared.Sizes.{Sizes}
 use Rattle.job_format.specs.declared.Zeros.{Zeros}
 use Rattle.job_format.specs.declared.Zeros.TheVariants.{Kept, Needless}
-use Rattle.job_format.specs.declared.Rewritten.{Rewritten}
-use Rattle.job_format.specs.Reading.{Parsed, fault, found, and_then, needless, needless_zero}
+use Rattle.job_format.specs.Reading.{Parsed, fault, found, and_then, needless, needless_zero, fault_code}
 use Rattle.job_format.specs.Format.{Contents, InBounds, read_job}
 use Rattle.text.specs.Writing.{overwrite}
 
@@ -58,16 +57,16 @@ written read = and_then read (λ job at. found (job_bytes job) (length (job_byte
 unfoldable pub rewritten : List ℕ → Parsed (List ℕ)
 rewritten file = written (read_job Kept file)
 
-abbrev pub answered : Parsed (List ℕ) → Rewritten
-answered (found text end) = Rewritten.Job (length text)
-answered (fault f) = Rewritten.Fault f
+abbrev pub answered : Parsed (List ℕ) → Result ℕ Fault
+answered (found text end) = Ok (length text)
+answered (fault f) = Err f
 
 abbrev pub memory_after : Parsed (List ℕ) → List ℕ → List ℕ
 memory_after (found text end) memory = overwrite 0 text memory
 memory_after (fault f) memory = memory
 
 -- what the code answers and leaves
-pub record Rewrites (text : Parsed (List ℕ)) (before : List ℕ) (r : Rewritten) (after : List ℕ) : Type 0 where
+pub record Rewrites (text : Parsed (List ℕ)) (before : List ℕ) (r : Result ℕ Fault) (after : List ℕ) : Type 0 where
   pub answer : r ≡ answered text
   pub memory : after ≡ memory_after text before
 
@@ -92,7 +91,7 @@ GivesBack = (file : List ℕ) (job : Contents) (at : ℕ) → T (are_bytes file)
 
 -- What yields nothing is what the former rules refuse, with their fault, which is one under 13.
 abbrev pub RefusedBy13 : Type 0
-RefusedBy13 = (file : List ℕ) (f : Fault) → rewritten file ≡ fault f → (read_job Kept file ≡ fault f) × (f.code ≡ 13)
+RefusedBy13 = (file : List ℕ) (f : Fault) → rewritten file ≡ fault f → (read_job Kept file ≡ fault f) × (fault_code f ≡ 13)
 
 -- Contents of any sizes within the bounds and any bits have a job.
 abbrev pub WrittenIsRead : Type 0

@@ -2,7 +2,7 @@
 use Prim.Native.Nat.{ℕ, ◌+◌, ◌-◌, ◌≤◌, ◌<◌}
 use native.Mathlib.Omega.{arith}
 use native.Mathlib.Decide.{dec_lt}
-use mathlib.Core.Path.{◌≡◌, refl, sym, ap, ◌∙◌}
+use mathlib.Core.Path.{◌≡◌, refl, ap, ◌∙◌}
 use mathlib.Core.List.{List, ◌++◌}
 use lib.ListN.{length, get_or, set, take, drop, length-append, length-set, length-take, length-drop, get_or-append}
 use lib.Seq.{get_or-take, get_or-drop, get_or-append-add, get_or-set_same, get_or-set_other}
@@ -80,15 +80,6 @@ module _ {A : Type 0} (d : A) where
               ];
           after = λ i h. get_or-set_other zs (a + k) i x d (λ g. omega arith) ∙ so.after i (omega arith);
         }
-
-  -- the same where the loop counts from a on
-  pub filled_at :
-      (a i : ℕ) (f : ℕ → A) (xs zs : List A) (x : A) → a ≤ i → i < length xs → Filled d a (i - a) (λ r. f (a + r)) xs zs → x ≡ f i →
-      Filled d a (i + 1 - a) (λ r. f (a + r)) xs (set zs i x)
-  filled_at a i f xs zs x low room so e =
-      let here : a + (i - a) ≡ i = omega arith in
-      let next : i + 1 - a ≡ i - a + 1 = omega arith in
-      rw next (rw here at (filled_next a (λ r. f (a + r)) xs (i - a) zs x (omega arith) so (e ∙ ap f (sym here))))
 
   -- element i of those that were stored so
   pub filled_here :

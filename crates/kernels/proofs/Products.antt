@@ -5,15 +5,15 @@ use native.Mathlib.Numerals.{add-one}
 use native.Mathlib.Omega.{arith}
 use mathlib.Core.Path.{◌≡◌, refl, ap, ap₂, ◌∙◌}
 use mathlib.Core.Bool.{Bool, true, false, cond}
-use mathlib.Core.List.{List}
+use mathlib.Core.List.{List, ◌++◌}
 use lib.Dec.{eqb}
 use lib.ListN.{length, get_or, take, drop, length-take}
 use lib.Seq.{get_or-take}
 use lib.Ieee.{Float, nan, inf, fin, Format, binary64, sub, mul, round, unlike, up, down}
 use Rattle.calls.specs.Arithmetic.{minus_products}
 use Rattle.calls.proofs.Columns.{products_same}
-use Rattle.kernels.specs.Kernels.{Filled, Replaced, row_at, lane_at, rising_from, falling_from}
-use Rattle.kernels.proofs.Parts.{get_d_part, length_part, filled_same}
+use Rattle.kernels.specs.Kernels.{MultipleSubtracted, Filled, rising_from, falling_from}
+use Rattle.kernels.proofs.Parts.{get_d_part, length_part, part_replaced, filled_same}
 
 unlike_comm : (s t : Bool) → unlike s t ≡ unlike t s
 unlike_comm false false = refl
@@ -93,14 +93,20 @@ falling_part column x v at a m e t end fits same =
     size : length (take m (drop a v)) ≡ m
     size = length_part nan a m v (omega arith)
 
--- ---- lanes
+-- ---- v[a..a + k] less a multiple of m[x..x + k]
 
--- the first len of 16 lanes loaded, worked on and stored
-pub filled_lanes :
-    (m m' panel start lanes : List Float) (x y len count : ℕ) → len ≤ 16 → ((t : ℕ) → t < len → get_or start t nan ≡ get_or m (y + t) nan) →
-    ((t : ℕ) → t < 16 → get_or lanes t nan ≡ minus_products (row_at m x) (lane_at 16 panel t) count (get_or start t nan)) →
-    Replaced nan y len m lanes m' →
-    Filled nan y len (λ t. minus_products (row_at m x) (lane_at 16 panel t) count (get_or m (y + t) nan)) m m'
-filled_lanes m m' panel start lanes x y len count few loaded worked filled =
-    filled_same nan y len (λ t. get_or lanes t nan) (λ t. minus_products (row_at m x) (lane_at 16 panel t) count (get_or m (y + t) nan)) m m'
-    (λ t h. worked t (omega arith) ∙ ap (minus_products (row_at m x) (lane_at 16 panel t) count) (loaded t h)) filled
+pub part_multiple :
+    (a x k : ℕ) (v m v' : List Float) (y : Float) → a + k ≤ length v → x + k ≤ length m →
+    MultipleSubtracted (take (a + k - a) (drop a v)) (take (x + k - x) (drop x m)) y v' →
+    Filled nan a k (λ s. sub binary64 (get_or v (a + s) nan) (mul binary64 (get_or m (x + s) nan) y)) v (take a v ++ (v' ++ drop (a + k - a) (drop a v)))
+part_multiple a x k v m v' y room room' less =
+    let here : a + k - a ≡ k = omega arith in
+    let there : x + k - x ≡ k = omega arith in
+    let size : length (take k (drop a v)) ≡ k = length_part nan a k v room in
+    let less' : MultipleSubtracted (take k (drop a v)) (take k (drop x m)) y v' = rw (here, there) at less in
+    rw here
+    (filled_same nan a k (λ s. get_or v' s nan) _ v _
+    (λ s h.
+    less'.value s (omega (arith, size))
+    ∙ ap₂ (λ u w. sub binary64 u (mul binary64 w y)) (get_d_part nan a k v s h) (get_d_part nan x k m s h))
+    (part_replaced nan a k v v' room (less'.size ∙ size)))

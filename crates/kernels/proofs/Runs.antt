@@ -3,8 +3,8 @@ use Prim.Native.Nat.{ℕ, zero, suc, ◌+◌, ◌-◌, ◌*◌, ◌≤◌, ◌<�
 use native.Mathlib.Nat.{mul-le-mul_right}
 use native.Mathlib.Omega.{arith}
 use mathlib.Core.Path.{◌≡◌, ap, ap₂, sym, ◌∙◌}
-use mathlib.Core.List.{List}
-use lib.ListN.{get_or}
+use mathlib.Core.List.{List, ◌++◌}
+use lib.ListN.{length, get_or, take, drop}
 use lib.Ieee.{Float, nan, binary64, sub, mul}
 use Rattle.shape.specs.Places.{triangle, block_of, block_start, width, place_in_block, blocked_place}
 use Rattle.shape.proofs.Bijections.{blocked_bijection}
@@ -14,8 +14,9 @@ use Rattle.shape.proofs.Rows.{place_in_block_row, row_start_under}
 use Rattle.shape.proofs.Blocks.{block_of_le, block_before, block_end, width_full, blocked_place_at}
 use Rattle.calls.specs.Arithmetic.{minus_products}
 use Rattle.calls.proofs.Columns.{products_same, minus_add}
-use Rattle.kernels.specs.Kernels.{Filled, RowsBelow, TileIs, tile_at, row_at, run_at, lane_at}
+use Rattle.kernels.specs.Kernels.{MultipleSubtracted, Filled, RowsBelow, TileIs, tile_at, row_at, run_at, lane_at}
 use Rattle.kernels.proofs.Parts.{filled_append}
+use Rattle.kernels.proofs.Products.{part_multiple}
 
 pub square_ge : (w : ℕ) → w ≤ w * w
 square_ge zero = omega arith
@@ -123,18 +124,18 @@ row_turn {start} {h} {b} {corner} {count} {i} {k = k} so some first more =
 -- ---- the products of one more block column
 
 module _
-    (rows lanes start h b i k : ℕ) (m panel t₀ t t' : List Float) (first : block_of b k ≡ k) (low : k + b ≤ i) (high : i + rows ≤ h)
+    (rows lanes start h b i k : ℕ) (m panel : List Float) (t₀ t t' : List (List Float)) (first : block_of b k ≡ k) (low : k + b ≤ i) (high : i + rows ≤ h)
     (before :
-    TileIs rows lanes lanes (λ r s. minus_products (run_at m start h b (i + r)) (lane_at lanes panel s) k (tile_at lanes t₀ r s)) t)
+    TileIs rows lanes (λ r s. minus_products (run_at m start h b (i + r)) (lane_at lanes panel s) k (tile_at t₀ r s)) t)
     (block :
-    TileIs rows lanes lanes
-    (λ r s. minus_products (row_at m (start + row_place h b i k + r * b)) (λ q. get_or panel (lanes * k + lanes * q + s) nan) b (tile_at lanes t r s)) t') where
+    TileIs rows lanes
+    (λ r s. minus_products (row_at m (start + row_place h b i k + r * b)) (λ q. get_or panel (lanes * k + lanes * q + s) nan) b (tile_at t r s)) t') where
   pub run_next :
-      TileIs rows lanes lanes (λ r s. minus_products (run_at m start h b (i + r)) (lane_at lanes panel s) (k + b) (tile_at lanes t₀ r s)) t'
+      TileIs rows lanes (λ r s. minus_products (run_at m start h b (i + r)) (lane_at lanes panel s) (k + b) (tile_at t₀ r s)) t'
   run_next r s p few =
       block r s p few
       ∙ products_same (row_at m (start + row_place h b i k + r * b)) (λ q. run_at m start h b (i + r) (k + q))
-      (λ q. get_or panel (lanes * k + lanes * q + s) nan) (λ q. lane_at lanes panel s (k + q)) b (tile_at lanes t r s)
+      (λ q. get_or panel (lanes * k + lanes * q + s) nan) (λ q. lane_at lanes panel s (k + q)) b (tile_at t r s)
       (λ q g.
       let at : start + row_place h b i k + r * b + q ≡ start + (row_place h b i k + r * b + q) = omega arith in
       ap (λ z. get_or m z nan) (at ∙ ap (λ z. start + z) (sym (row_entry h b k first i r q low (omega arith) g))))
@@ -142,7 +143,7 @@ module _
       let at : lanes * k + lanes * q + s ≡ lanes * (k + q) + s = omega arith in
       ap (λ z. get_or panel z nan) at)
       ∙ ap (minus_products (λ q. run_at m start h b (i + r) (k + q)) (λ q. lane_at lanes panel s (k + q)) b) (before r s p few)
-      ∙ sym (minus_add (run_at m start h b (i + r)) (lane_at lanes panel s) k b (tile_at lanes t₀ r s))
+      ∙ sym (minus_add (run_at m start h b (i + r)) (lane_at lanes panel s) k b (tile_at t₀ r s))
 
 -- ---- one product for each of the columns
 
@@ -151,7 +152,7 @@ abbrev pub less_row : ℕ → ℕ → ℕ → List Float → Float → List Floa
 less_row h b i part y tile j = sub binary64 (get_or tile j nan) (mul binary64 (get_or part (blocked_place h b i j) nan) y)
 
 -- one more block column
-pub columns_next :
+columns_next :
     (h b i k x : ℕ) (part t₀ t t' : List Float) (y : Float) → block_of b k ≡ k → k + b ≤ i → i < h → x ≡ row_place h b i k →
     Filled nan 0 k (less_row h b i part y t₀) t₀ t →
     Filled nan k b (λ s. sub binary64 (get_or t (k + s) nan) (mul binary64 (get_or part (x + s) nan) y)) t t' →
@@ -162,3 +163,22 @@ columns_next h b i k x part t₀ t t' y first low high place before row =
     (λ s few.
     ap₂ (λ u p. sub binary64 u (mul binary64 (get_or part p nan) y)) (before.after (k + s) (omega arith))
     (ap (λ p. p + s) place ∙ row_here h b k first i s low high few))
+
+module _
+    {h b w i k x : ℕ} (part : List Float) (so : RowsBelow 0 h b (triangle b) w i 1 (length part)) (first : block_of b k ≡ k) (more : k < w)
+    (place : x ≡ row_place h b i k)
+  where
+    -- the row's part in the block column lies in the memory
+    pub columns_room : x + b ≤ length part
+    columns_room =
+        let t = row_turn so (omega arith) first more in
+        omega (arith, place, row_inside h b k first i 0 so.block t.1 (omega (arith, t.2)), so.size)
+
+    pub columns_turn :
+        {t₀ t v' : List Float} {y : Float} → length t ≡ 16 → w ≤ 16 → Filled nan 0 k (less_row h b i part y t₀) t₀ t →
+        MultipleSubtracted (take (k + b - k) (drop k t)) (take (x + b - x) (drop x part)) y v' →
+        Filled nan 0 (k + b) (less_row h b i part y t₀) t₀ (take k t ++ (v' ++ drop (k + b - k) (drop k t)))
+    columns_turn {t₀} {t} {v'} {y} size few before less =
+        let here = row_turn so (omega arith) first more in
+        columns_next h b i k x part t₀ t _ y first here.1 here.2 place before
+        (part_multiple k x b t part v' y (omega (arith, here.0)) columns_room less)

@@ -1,5 +1,5 @@
 -- What the loops over values promise. Of a matrix they know only where blocked order keeps a row, and the packed places of one.
-use Rattle.std.specs.Prelude.{ℕ, ◌+◌, ◌-◌, ◌*◌, ◌≤◌, ◌<◌, ◌≡◌, ◌≢◌, List, length, get_or, Float}
+use Rattle.std.specs.Prelude.{ℕ, ◌+◌, ◌-◌, ◌*◌, ◌≤◌, ◌<◌, ◌≡◌, ◌≢◌, List, [], length, get_or, Float}
 use Rattle.std.specs.Float.{nan, binary64}
 use Rattle.std.specs.Float.Ieee.{sub, mul}
 use Rattle.shape.specs.Bounds.{max_order, max_block}
@@ -15,12 +15,12 @@ abbrev pub lane_at : ℕ → List Float → ℕ → ℕ → Float
 lane_at lanes panel s = λ k. get_or panel (lanes * k + s) nan
 
 -- lane s of row r of a tile
-abbrev pub tile_at : ℕ → List Float → ℕ → ℕ → Float
-tile_at lanes tile r s = get_or tile (r * lanes + s) nan
+abbrev pub tile_at : List (List Float) → ℕ → ℕ → Float
+tile_at tile r s = get_or (get_or tile r []) s nan
 
 -- the first `len` lanes of a tile's rows are f r s
-abbrev pub TileIs : ℕ → ℕ → ℕ → (ℕ → ℕ → Float) → List Float → Type 0
-TileIs rows lanes len f tile = (r s : ℕ) → r < rows → s < len → tile_at lanes tile r s ≡ f r s
+abbrev pub TileIs : ℕ → ℕ → (ℕ → ℕ → Float) → List (List Float) → Type 0
+TileIs rows len f tile = (r s : ℕ) → r < rows → s < len → tile_at tile r s ≡ f r s
 
 -- t less the first products x(at + k)·y(k), k = 0, 1, .., of which `count` are taken
 abbrev pub rising_from : List Float → ℕ → List Float → ℕ → Float → Float

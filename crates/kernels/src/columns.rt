@@ -1,5 +1,5 @@
 // The first w columns of a memory of order h in blocked order, less products: up to sixteen columns, whole block columns of b columns. Numbers of
-// columns are written out where `reduce_columns` is called, as rows and lanes are in tiles.rt.
+// columns are written out where `reduce_columns` is called, so that the compiler keeps the values in registers.
 ghost use Rattle.std.specs.Prelude.{◌≡◌, ℕ, ◌+◌, ◌-◌, ◌≤◌, ◌<◌, length, get_or};
 ghost use Rattle.std.specs.Float.{nan, binary64};
 ghost use Rattle.std.specs.Float.Ieee.{sub, mul};
@@ -7,7 +7,7 @@ ghost use Rattle.shape.specs.Places.{triangle, blocked_place};
 ghost use Rattle.calls.specs.Arithmetic.{minus_products};
 ghost use Rattle.kernels.specs.Kernels.{RowsBelow};
 
-use crate::tiles::step_row;
+use crate::subtract_multiple;
 use shape::Shape;
 
 // Column j less the product of its entry in row i, which is below them, and y. The row moves from a block column to the next as in `reduce_run`.
@@ -28,12 +28,9 @@ fn step_columns(
     let step = 2 * b * b - Shape::new(b, b).triangle();
     let mut next = tile;
     let mut x = Shape::place_in_block(b, i, 0);
-    let mut k = 0;
-    while k < w {
-        let row = step_row(next, k, b, part, x, y);
-        next = row;
+    for k in (0..w).step_by(b) {
+        subtract_multiple(&mut next[k..k + b], &part[x..x + b], y);
         x = x + (h - k) * b - step;
-        k += b;
     }
     next
 }
@@ -56,12 +53,10 @@ pub fn reduce_columns(
         (get_or tile j nan) }
 {
     let mut next = tile;
-    let mut k = 0;
-    while k < count {
+    for k in 0..count {
         let i = h - 1 - k;
         let step = step_columns(next, w, b, part, h, i, v[i]);
         next = step;
-        k += 1;
     }
     next
 }

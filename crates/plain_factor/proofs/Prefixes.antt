@@ -3,7 +3,7 @@ use Prim.Native.Nat.{ℕ, suc, ◌+◌, ◌-◌, ◌≤◌, ◌<◌}
 use native.Mathlib.Numerals.{add-one}
 use native.Mathlib.Omega.{arith}
 use mathlib.Core.Path.{◌≡◌, refl, sym, ap, ap₂, ◌∙◌}
-use mathlib.Core.Bool.{Bool, true, false, cond}
+use mathlib.Core.Bool.{Bool, true, false, cond, ◌&&◌}
 use mathlib.Core.List.{List, [], ◌∷◌}
 use lib.ListN.{length, get_or}
 use lib.Ieee.{Float, nan, binary64, div}
@@ -14,17 +14,16 @@ use Rattle.shape.specs.Places.{triangle, packed_place}
 use Rattle.shape.specs.Layouts.{Entry}
 use Rattle.shape.proofs.Bijections.{packed_bijection}
 use Rattle.calls.specs.declared.Verdict.{Verdict}
-use Rattle.calls.specs.declared.Judgement.{Judgement}
-use Rattle.calls.specs.Sequences.{iterate, grow, all}
+use Rattle.calls.specs.Sequences.{iterate, grow, all, every}
 use Rattle.calls.specs.Triangles.{Triangle, entry, height, store_column, store}
 use Rattle.calls.specs.Arithmetic.{minus_products, pivot, quotient, below, factor_column, cholesky}
 use Rattle.calls.specs.Refusals.{success, accepted, lowest_refusal, column_rules, column_verdict, column_exact}
-use Rattle.calls.specs.Judgements.{judgement, judged_to}
+use Rattle.calls.specs.Judgements.{Judgement, judgement}
 use Rattle.calls.specs.Calls.{judge_column, exact_column, columns_verdict, columns_exact}
 use Rattle.calls.proofs.Sequences.{tabulate_same, iterate_alike}
 use Rattle.calls.proofs.Triangles.{entry_load, stored, store_same, store_other}
 use Rattle.calls.proofs.Columns.{columns, column_of, shaped_columns, products_same}
-use Rattle.calls.proofs.Judging.{lowest_next, judged_stays}
+use Rattle.calls.proofs.Judging.{lowest_next, lowest_found}
 use Rattle.calls.proofs.ColumnRules.{rules_success, rules_place}
 use Rattle.plain_factor.specs.Steps.{held, Judged, Factored}
 
@@ -132,48 +131,49 @@ module _ (n : ℕ) (m : List Float) (size : length m ≡ triangle n) where
 -- ---- what all columns are judged to
 
 pub judged_all :
-    (n : ℕ) (m s : List Float) (r : Judgement) → lowest_refusal (rule_of n m) n ≡ success → r ≡ judged_to (rule_of n m) (exact_of n m) n → s ≡ prefix_of n m n →
-    Factored n m r s
+    (n : ℕ) (m s : List Float) (exact : Bool) → lowest_refusal (rule_of n m) n ≡ success → exact ≡ every (exact_of n m) n → s ≡ prefix_of n m n →
+    Factored n m (record { verdict = success; exact = exact }) s
 unfolding columns_verdict columns_exact
-judged_all n m s r before is e = record { result = is; matrix = e ∙ rw (is, before) refl }
+judged_all n m s exact before is e = record { result = rw (before, is) refl; matrix = e }
 
--- ---- a turn of the column loop: a column, and what those up to it are judged to
+-- ---- a turn of the column loop
 
 module _ (n : ℕ) (m : List Float) (size : length m ≡ triangle n) (j : ℕ) (inside : j < n) (before : lowest_refusal (rule_of n m) j ≡ success)
     (s s' : List Float) (r : Judgement) (written : s ≡ prefix_of n m j) (column : Judged n j s r s') where
-  pub column_is : r ≡ judgement (rule_of n m j) (exact_of n m j)
+  abbrev entered_here : Float
+  entered_here = entry (held n m) j j
+
+  abbrev pivot_here : Float
+  pivot_here = pivot (held n m) (columns n (held n m) j) j
+
+  abbrev finite_below : Bool
+  finite_below = all finite (below (height n) (held n m) j (columns n (held n m) j))
+
+  column_is : r ≡ judgement (rule_of n m j) (exact_of n m j)
   column_is = (prefix_judged n m size j s s' r inside written column).0
 
-  module _ (answer : Judgement) (joined : answer ≡ judged_to (rule_of n m) (exact_of n m) (j + 1)) where
-    abbrev entered_here : Float
-    entered_here = entry (held n m) j j
+  rule_is : {t : Bool} → accepted r.verdict ≡ t → accepted (rule_of n m j) ≡ t
+  rule_is e = ap (λ (x : Judgement). accepted x.verdict) (sym column_is) ∙ e
 
-    abbrev pivot_here : Float
-    pivot_here = pivot (held n m) (columns n (held n m) j) j
+  memory_is : {t : Bool} → accepted r.verdict ≡ t → s' ≡ cond t (prefix_of n m (suc j)) (prefix_of n m j)
+  memory_is e =
+      (prefix_judged n m size j s s' r inside written column).1 ∙ ap (λ b. cond b (prefix_of n m (suc j)) (prefix_of n m j)) (rule_is e)
 
-    abbrev finite_below : Bool
-    finite_below = all finite (below (height n) (held n m) j (columns n (held n m) j))
+  pub columns_refused : accepted r.verdict ≡ false → Factored n m r s'
+  unfolding columns_verdict columns_exact column_verdict
+  columns_refused f =
+      let refused : accepted (rule_of n m j) ≡ false = rule_is f in
+      record {
+        result = column_is ∙ rw (lowest_found (rule_of n m) j n inside before refused, refused) refl;
+        matrix = memory_is f ∙ rw (column_is, refused, rules_place j entered_here pivot_here finite_below refused) refl;
+      }
 
-    verdict_is : answer.verdict ≡ rule_of n m j
-    verdict_is = ap (λ (x : Judgement). x.verdict) joined ∙ lowest_next (rule_of n m) j before
-
-    memory_is : {t : Bool} → accepted answer.verdict ≡ t → s' ≡ cond t (prefix_of n m (suc j)) (prefix_of n m j)
-    memory_is e =
-        (prefix_judged n m size j s s' r inside written column).1
-        ∙ ap (λ b. cond b (prefix_of n m (suc j)) (prefix_of n m j)) (ap accepted (sym verdict_is) ∙ e)
-
-    pub columns_refused : accepted answer.verdict ≡ false → Factored n m answer s'
-    unfolding columns_verdict columns_exact column_verdict
-    columns_refused f =
-        let refused : accepted (rule_of n m j) ≡ false = ap accepted (sym verdict_is) ∙ f in
-        record {
-          result = joined ∙ judged_stays (rule_of n m) (exact_of n m) (j + 1) n (omega arith) (ap (λ (x : Judgement). accepted x.verdict) (sym joined) ∙ f);
-          matrix = memory_is f ∙ rw (verdict_is, refused, rules_place j entered_here pivot_here finite_below refused) refl;
-        }
-
-    pub columns_continued : accepted answer.verdict ≡ true → (s' ≡ prefix_of n m (j + 1)) × (lowest_refusal (rule_of n m) (j + 1) ≡ success)
-    unfolding column_verdict
-    columns_continued t = (
-      rw add-one (memory_is t),
-      lowest_next (rule_of n m) j before ∙ rules_success j entered_here pivot_here finite_below (rw (ap accepted (sym verdict_is) ∙ t) tt),
-    )
+  pub columns_continued :
+      accepted r.verdict ≡ true →
+      (s' ≡ prefix_of n m (j + 1)) × (lowest_refusal (rule_of n m) (j + 1) ≡ success) × (every (exact_of n m) j && r.exact ≡ every (exact_of n m) (j + 1))
+  unfolding column_verdict every
+  columns_continued t = (
+    rw add-one (memory_is t),
+    lowest_next (rule_of n m) j before ∙ rules_success j entered_here pivot_here finite_below (rw (rule_is t) tt),
+    rw (add-one j, column_is, rule_is t) refl,
+  )

@@ -11,13 +11,12 @@ use Rattle.shape.specs.Places.{triangle, packed_place}
 use Rattle.shape.specs.Layouts.{Entry}
 use Rattle.shape.proofs.Columns.{packed_place_next_diagonal}
 use Rattle.shape.proofs.Bijections.{packed_bijection}
-use Rattle.shape.proofs.Bounds.{triangle_le}
 use Rattle.calls.specs.Arithmetic.{minus_products}
 use Rattle.kernels.specs.Kernels.{Replaced}
-use Rattle.kernels.proofs.Parts.{filled_same, filled_at, filled_here, filled_append}
+use Rattle.kernels.proofs.Parts.{filled_none, filled_next, filled_same, filled_here}
 use Rattle.calls.proofs.Columns.{minus_add}
 use Rattle.kernels.proofs.Products.{minus_none, minus_next}
-use Rattle.plain_factor.specs.Steps.{Column, less_products, reduced, Waiting, TileReduced, RowsReduced, GroupReduced, PairReduced}
+use Rattle.plain_factor.specs.Steps.{Packed, less_products, reduced, Waiting, TileReduced, RowsReduced, GroupReduced, PairReduced}
 
 -- ---- places
 
@@ -30,23 +29,14 @@ row_place_next n k h =
     omega (arith, packed_place_next_diagonal n k (omega arith), row_place_lem n k k, row_place_lem n (k + 1) (k + 1))
 
 -- in the memory, whether or not the row is one of the column
-row_place_lt : (n i k : ℕ) → k < n → i < n → packed_place n 0 k + i < triangle n
+pub row_place_lt : (n i k : ℕ) → k < n → i < n → packed_place n 0 k + i < triangle n
 row_place_lt n i k h inside =
     let last : Entry n (n - 1) k = record { lower = omega arith; inside = omega arith } in
     omega (arith, (packed_bijection n).below (n - 1) k last, row_place_lem n (n - 1) k)
 
--- every place fits 64 bits
-pub row_place_le :
-    {n j : ℕ} {m : List Float} (i k : ℕ) → Column n j m → k < n → i < n →
-    (packed_place n 0 k + i < length m) × (packed_place n 0 k + i < 8002000)
-row_place_le {n} i k s h inside =
-    (omega (arith, row_place_lt n i k h inside, s.size), omega (arith, row_place_lt n i k h inside, triangle_le n s.order))
-
--- the same from where column k starts
-pub row_from_le :
-    {n j : ℕ} {m : List Float} (i k start : ℕ) → Column n j m → start ≡ packed_place n 0 k → k < n → i < n →
-    (start + i < length m) × (start + i < 8002000)
-row_from_le i k start s e h inside = rw e (row_place_le i k s h inside)
+-- all rows of column k stand in the memory
+pub column_fits : {n : ℕ} {m : List Float} (k start : ℕ) → Packed n m → start ≡ packed_place n 0 k → k < n → start + n ≤ length m
+column_fits {n} k start s e h = omega (arith, row_place_lt n (n - 1) k h (omega arith), s.size)
 
 -- column k + c + 1 starts as far past column k + c as that has rows below its diagonal
 pub start_next : (n k c start : ℕ) → k + c < n → start ≡ packed_place n 0 (k + c) → start + (n - k - c - 1) ≡ packed_place n 0 (k + (c + 1))
@@ -60,6 +50,12 @@ module _ (n : ℕ) (m : List Float) (j : ℕ) where
   pub reduced_none : (i : ℕ) → get_or m (packed_place n 0 j + i) nan ≡ reduced n m j 0 i
   unfolding reduced
   reduced_none i = ap (λ p. get_or m p nan) (sym (row_place_lem n i j)) ∙ sym (minus_none _ _ _)
+
+  -- a row from `from` on, read
+  pub row_loaded : (start from r : ℕ) → start ≡ packed_place n 0 j → get_or m (start + from + r) nan ≡ reduced n m j 0 (from + r)
+  row_loaded start from r e =
+      let place : start + from + r ≡ packed_place n 0 j + (from + r) = omega arith in
+      rw place (reduced_none (from + r))
 
   reduced_next :
       (k i start : ℕ) (t : Float) → start ≡ packed_place n 0 k → t ≡ reduced n m j k i →
@@ -99,21 +95,21 @@ module _ (n : ℕ) (m : List Float) (j : ℕ) where
     less_next c i start x t e h = rw (minus_next, e, h, row_place_lem n i (k + c), row_place_lem n j (k + c))
 
     pub tile_next :
-        (c i start : ℕ) (tile t t' : List Float) → start ≡ packed_place n 0 (k + c) → TileReduced n m j k c i tile t →
-        ((r : ℕ) → r < 16 → get_or t' r nan ≡ sub binary64 (get_or t r nan) (mul binary64 (get_or m (start + i + r) nan) (get_or m (start + j) nan))) →
-        TileReduced n m j k (c + 1) i tile t'
-    tile_next c i start tile t t' e before step r h =
+        (width c i start : ℕ) (tile t t' : List Float) → start ≡ packed_place n 0 (k + c) → TileReduced width n m j k c i tile t →
+        ((r : ℕ) → r < width → get_or t' r nan ≡ sub binary64 (get_or t r nan) (mul binary64 (get_or m (start + i + r) nan) (get_or m (start + j) nan))) →
+        TileReduced width n m j k (c + 1) i tile t'
+    tile_next width c i start tile t t' e before step r h =
         let here : start + i + r ≡ start + (i + r) = omega arith in
         step r h
         ∙ ap (λ p. sub binary64 (get_or t r nan) (mul binary64 (get_or m p nan) (get_or m (start + j) nan))) here
         ∙ less_next c (i + r) start (get_or tile r nan) (get_or t r nan) e (before r h)
 
     pub part_stored :
-        (count i s : ℕ) (w w' tile tile' : List Float) → ((r : ℕ) → r < 16 → get_or tile r nan ≡ get_or w (s + r) nan) →
-        TileReduced n m j k count i tile tile' →
-        Replaced nan s 16 w tile' w' → RowsReduced n m j k count i s 16 w w'
-    part_stored count i s w w' tile tile' loaded done =
-        filled_same nan s 16 (λ r. get_or tile' r nan) (λ r. less_products n m j k count (i + r) (get_or w (s + r) nan)) w w'
+        (width count i s : ℕ) (w w' tile tile' : List Float) → ((r : ℕ) → r < width → get_or tile r nan ≡ get_or w (s + r) nan) →
+        TileReduced width n m j k count i tile tile' →
+        Replaced nan s width w tile' w' → RowsReduced n m j k count i s width w w'
+    part_stored width count i s w w' tile tile' loaded done =
+        filled_same nan s width (λ r. get_or tile' r nan) (λ r. less_products n m j k count (i + r) (get_or w (s + r) nan)) w w'
         (λ r h. done r h ∙ ap (less_products n m j k count (i + r)) (loaded r h))
 
 -- ---- more rows
@@ -123,31 +119,34 @@ module _ (n : ℕ) (m : List Float) (j k count : ℕ) where
   abbrev row : List Float → ℕ → Float
   row w i = less_products n m j k count i (get_or w i nan)
 
-  pub row_next :
-      (first i : ℕ) (w₀ w : List Float) (x : Float) → first ≤ i → i < length w₀ → RowsReduced n m j k count first first (i - first) w₀ w →
-      x ≡ row w i → RowsReduced n m j k count first first (i + 1 - first) w₀ (set w i x)
-  row_next first i w₀ w x low fit so e =
-      filled_at nan first i (row w₀) w₀ w x low fit so (e ∙ ap (less_products n m j k count i) (so.after i (omega arith)))
+  -- a row alone, at its place
+  pub row_stored :
+      (i : ℕ) (w : List Float) (x : Float) → i < length w → x ≡ less_products n m j k count (i + 0) (get_or w i nan) →
+      RowsReduced n m j k count i i 1 w (set w i x)
+  row_stored i w x fit e =
+      let here : i + 0 ≡ i = omega arith in
+      let value : ℕ → Float = λ r. less_products n m j k count (i + r) (get_or w (i + r) nan) in
+      rw here at
+      (filled_next nan i value w 0 w x (omega arith) (filled_none nan i value w)
+      (e ∙ ap (λ p. less_products n m j k count (i + 0) (get_or w p nan)) (sym here)))
 
-  pub rows_append :
-      (first i c : ℕ) (w₀ w w' : List Float) → first ≤ i → RowsReduced n m j k count first first (i - first) w₀ w →
-      RowsReduced n m j k count i i c w w' → RowsReduced n m j k count first first (i + c - first) w₀ w'
-  rows_append first i c w₀ w w' low so more =
-      let end : i + c - first ≡ i - first + c = omega arith in
-      rw end
-      (filled_append nan first (i - first) i c (λ r. row w₀ (first + r)) (λ r. row w (i + r)) w₀ w w' (omega arith) so more
-      (λ r h.
-      let here : i + r ≡ first + (i - first + r) = omega arith in
-      ap (less_products n m j k count (i + r)) (so.after (i + r) (omega arith)) ∙ ap (row w₀) here))
+  pub group_none : (w : List Float) → GroupReduced n m j k count j w w
+  group_none w = record { rows = λ i low h. absurd (omega arith); before = λ p low h. refl; after = λ p low h. refl }
 
-  pub group_reduced :
-      (first to : ℕ) (w w' : List Float) → first ≤ j → j ≤ first + 15 → j ≤ to → RowsReduced n m j k count first first (to - first) w w' →
-      GroupReduced n m j k count to w w'
-  group_reduced first to w w' low near le so =
+  pub group_next :
+      (i c : ℕ) (w₀ w w' : List Float) → j ≤ i + 15 → i + c ≤ n → GroupReduced n m j k count i w₀ w → RowsReduced n m j k count i i c w w' →
+      GroupReduced n m j k count (i + c) w₀ w'
+  group_next i c w₀ w w' near le so more =
       record {
-        rows = λ i h h'. filled_here nan (row w) so i (omega arith) (omega arith);
-        before = λ p h h'. so.before p (omega arith);
-        after = λ p h h'. so.after p (omega arith);
+        rows = λ q low h.
+            elim (dec_lt q i) [
+              | yes p ↦ more.before q p ∙ so.rows q low p
+              | no p ↦
+                  filled_here nan (row w) more q (omega arith) (omega arith)
+                  ∙ ap (less_products n m j k count q) (so.after q (omega arith) (omega arith))
+            ];
+        before = λ p low h. more.before p (omega arith) ∙ so.before p low h;
+        after = λ p low h. more.after p (omega arith) ∙ so.after p (omega arith) h;
       }
 
   pub pair_none : (top : ℕ) (w : List Float) → PairReduced n m j k count top 0 w w

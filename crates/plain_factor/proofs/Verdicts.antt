@@ -5,31 +5,32 @@ use native.Mathlib.Omega.{arith}
 use mathlib.Core.Path.{◌≡◌, refl, sym, ap, ap₂, ◌∙◌}
 use mathlib.Core.Bool.{Bool, true, false, cond}
 use mathlib.Core.Logic.{◌≢◌}
-use mathlib.Core.List.{List, ◌∷◌}
+use mathlib.Core.List.{List, ◌∷◌, ◌++◌, append-nil}
 use borrow.Author.Rules.{part_to_end}
-use lib.ListN.{length, get_or, set, take, drop, length-drop}
-use lib.Seq.{get_or-drop, drop-cons, get_or-set_same, get_or-set_other}
+use borrow.Rule.Slice.PartMut.{put_mid}
+use lib.ListN.{length, get_or, set, take, drop, length-drop, length-set, get_or-append}
+use lib.Seq.{length-take-le, drop-append_seam, get_or-drop, drop-cons, get_or-set_same, get_or-set_other}
 use lib.Ieee.{Float, nan, binary64, div}
 use Rattle.binary64.specs.Kinds.{finite}
 use Rattle.binary64.specs.Root.{root}
 use Rattle.binary64.specs.Judged.{judged, exact_root}
 use Rattle.binary64.specs.declared.Pivot.{Pivot}
 use Rattle.binary64.specs.declared.Pivot.TheVariants.{Root, Refused}
+use Rattle.std.specs.Prelude.{Option, None, Some, IfSome}
+use Rattle.std.proofs.lemmas.List.{get_or-take, get_or-append_right, drop_all}
 use Rattle.shape.specs.Places.{packed_place}
 use Rattle.shape.specs.Layouts.{Entry}
 use Rattle.shape.proofs.Bijections.{packed_bijection}
-use Rattle.calls.specs.declared.Judgement.{Judgement}
 use Rattle.calls.specs.Sequences.{all}
 use Rattle.calls.specs.Triangles.{Triangle, entry, height, store_column}
 use Rattle.calls.specs.Arithmetic.{minus_products, pivot, quotient, below, factor_column}
-use Rattle.calls.specs.Refusals.{accepted, column_rules, column_verdict, column_exact}
-use Rattle.calls.specs.Judgements.{judgement}
+use Rattle.calls.specs.Refusals.{success, accepted, column_rules, column_verdict, column_exact}
+use Rattle.calls.specs.Judgements.{Judgement, judgement}
 use Rattle.calls.proofs.Sequences.{tabulate_of}
 use Rattle.calls.proofs.Triangles.{entry_load, column_other}
 use Rattle.calls.proofs.Columns.{length_column, products_same}
-use Rattle.kernels.proofs.Parts.{filled_here}
 use Rattle.calls.proofs.ColumnRules.{judged_root, rules_refused}
-use Rattle.plain_factor.specs.Steps.{Column, reduced, Reduced, held, RowsDivided, Divided, Judged}
+use Rattle.plain_factor.specs.Steps.{Same, WaitingFrom, reduced, Reduced, held, Divided, Judged}
 
 -- ---- formulas
 
@@ -75,24 +76,63 @@ module _ (n j : ℕ) (m : List Float) where
 
 -- ---- a column judged
 
-pub rows_divided :
-    (j : ℕ) (d : Float) (w v : List Float) → j < length w → RowsDivided (j + 1) d w v →
-    Divided j d w (set v j d) (all finite (take (length (set v j d) - (j + 1)) (drop (j + 1) (set v j d))))
-rows_divided j d w v inside f =
-    record {
-      before = λ p low h. get_or-set_other v j p d nan (λ g. omega arith) ∙ f.before p (omega arith);
-      diagonal = get_or-set_same v j d nan (omega (arith, f.size));
-      rows = λ i low h.
-          get_or-set_other v j i d nan (λ g. omega arith) ∙ filled_here nan (λ p. div binary64 (get_or w p nan) d) f i (omega arith) (omega arith);
-      finites = ap (all finite) (part_to_end (set v j d) (j + 1));
-    }
+module _ (j : ℕ) (d : Float) (w part : List Float) (inside : j < length w) where
+  -- the column with its diagonal value, and the rows below it, which become `part`
+  abbrev started : List Float
+  started = set w j d
 
-module _ (n j : ℕ) (m w : List Float) (s : Column n j m) (size : length w ≡ n) (rows : Reduced n m j j j n w) where
+  abbrev below_it : List Float
+  below_it = take (length started - (j + 1)) (drop (j + 1) started)
+
+  module _ (size : length part ≡ length below_it) (each : (r : ℕ) → r < length below_it → get_or part r nan ≡ div binary64 (get_or below_it r nan) d) where
+    finished : List Float
+    finished = take (j + 1) started ++ part
+
+    front : length (take (j + 1) started) ≡ j + 1
+    front = length-take-le _ _ (omega (arith, length-set w j d))
+
+    many : length below_it ≡ length w - (j + 1)
+    many = rw (part_to_end started (j + 1)) (length-drop (j + 1) started ∙ ap (λ k. k - (j + 1)) (length-set w j d))
+
+    is_finished : put_mid (j + 1) (length started - (j + 1)) started part ≡ finished
+    unfolding finished
+    is_finished =
+        ap (λ t. take (j + 1) started ++ (part ++ t)) (drop_all (length started - (j + 1)) (drop (j + 1) started) (omega (arith, length-drop (j + 1) started)))
+        ∙ ap (λ t. take (j + 1) started ++ t) (append-nil part)
+
+    above : (p : ℕ) → p ≤ j → get_or finished p nan ≡ get_or started p nan
+    unfolding finished
+    above p h =
+        get_or-append (take (j + 1) started) part nan p (omega (arith, front)) ∙ get_or-take (j + 1) started p nan (omega arith)
+
+    under : (i : ℕ) → j < i → i < length w → get_or finished i nan ≡ div binary64 (get_or w i nan) d
+    unfolding finished
+    under i low h =
+        let place : j + 1 + (i - (j + 1)) ≡ i = omega arith in
+        get_or-append_right (take (j + 1) started) part (j + 1) i nan front (omega arith)
+        ∙ each (i - (j + 1)) (omega (arith, many))
+        ∙ ap (λ x. div binary64 x d)
+        (ap (λ l. get_or l (i - (j + 1)) nan) (part_to_end started (j + 1))
+        ∙ get_or-drop (j + 1) started (i - (j + 1)) nan
+        ∙ rw place (get_or-set_other w j i d nan (λ g. omega arith)))
+
+    pub rows_divided : Divided j d w (put_mid (j + 1) (length started - (j + 1)) started part) (all finite part)
+    unfolding finished
+    rows_divided =
+        rw is_finished
+        (record {
+          before = λ p low h. above p (omega arith) ∙ get_or-set_other w j p d nan (λ g. omega arith);
+          diagonal = above j (omega arith) ∙ get_or-set_same w j d nan inside;
+          rows = under;
+          finites = ap (all finite) (sym (rw front at (drop-append_seam (take (j + 1) started) part)));
+        })
+
+module _ (n j : ℕ) (m w : List Float) (inside : j < n) (size : length w ≡ n) (rows : Reduced n m j j j n w) where
   abbrev x : Float
   x = pivot (held n m) (held n m) j
 
   pivot_is : get_or w j nan ≡ x
-  pivot_is = rows j (omega arith) s.column ∙ pivot_held n j m s.column
+  pivot_is = rows j (omega arith) inside ∙ pivot_held n j m inside
 
   -- what the column's rules say of the values in memory they say of the column
   rules_are :
@@ -100,9 +140,9 @@ module _ (n j : ℕ) (m w : List Float) (s : Column n j m) (size : length w ≡ 
       ≡ judgement (column_rules j (entry (held n m) j j) x f) (exact_root (judged x))
   rules_are f =
       ap₂ (λ e v. judgement (column_rules j e v f) (exact_root (judged v)))
-      (sym (entry_load (packed_place n) n m j j (record { lower = omega arith; inside = s.column }))) pivot_is
+      (sym (entry_load (packed_place n) n m j j (record { lower = omega arith; inside = inside }))) pivot_is
 
-  module _ {p : Pivot} (is : p ≡ judged (get_or w j nan)) where
+  module _ (p : Pivot) (is : p ≡ judged (get_or w j nan)) where
     -- a refused pivot decides, whatever stands below it
     pub pivot_refused :
         {v : Float} {r : Judgement} → p ≡ Refused v → r ≡ judgement (column_rules j (get_or m (packed_place n j j) nan) (get_or w j nan) true) (exact_root p) →
@@ -119,29 +159,38 @@ module _ (n j : ℕ) (m w : List Float) (s : Column n j m) (size : length w ≡ 
           matrix = rw (result, rules_refused j (entry (held n m) j j) x v true here);
         }
 
-  module _ (d : Float) (t : Bool) (w' : List Float) (finite_rows : Bool) (is : Root d t ≡ judged (get_or w j nan)) (size' : length w' ≡ n)
-      (divided : Divided j d w w' finite_rows) where
-    root_is : d ≡ root x
-    root_is = judged_root x d t (ap judged (sym pivot_is) ∙ sym is)
+    pub pivot_not_accepted :
+        (f : Bool) {v : Float} {e : Bool} → p ≡ Refused v →
+        record { verdict = success; exact = e } ≡ judgement (column_rules j (get_or m (packed_place n j j) nan) (get_or w j nan) f) (exact_root p) → ⊥
+    pivot_not_accepted f {v} e er =
+        let here : judged (get_or w j nan) ≡ Refused v = sym is ∙ e in
+        let no : true ≡ false =
+        ap (λ (x : Judgement). accepted x.verdict) er ∙ ap accepted (rules_refused j (get_or m (packed_place n j j) nan) (get_or w j nan) v f here) in
+        cc
 
-    pub column_judged :
-        {r : Judgement} {m' : List Float} →
-        r ≡ judgement (column_rules j (get_or m (packed_place n j j) nan) (get_or w j nan) finite_rows) t →
-        m' ≡ cond (accepted r.verdict) (store_column (packed_place n) j (drop j w') m) m → Judged n j m r m'
-    unfolding column_verdict column_exact
-    column_judged {r} er stored =
-        record {
-          result =
-              er
-              ∙ ap (λ p. judgement (column_rules j (get_or m (packed_place n j j) nan) (get_or w j nan) finite_rows) (exact_root p)) is
-              ∙ rules_are finite_rows
-              ∙ ap (λ f. judgement (column_rules j (entry (held n m) j j) x f) (exact_root (judged x)))
-              (divided.finites ∙ ap (all finite) (below_held n j m w w' d finite_rows size size' s.column rows divided root_is));
-          matrix =
-              stored
-              ∙ ap (λ c. cond (accepted r.verdict) (store_column (packed_place n) j c m) m)
-              (column_held n j m w w' d finite_rows size size' s.column rows divided root_is);
-        }
+    module _ (d : Float) (t : Bool) (ok : p ≡ Root d t) (w' : List Float) (finite_rows : Bool) (size' : length w' ≡ n)
+        (divided : Divided j d w w' finite_rows) where
+      root_is : d ≡ root x
+      root_is = judged_root x d t (ap judged (sym pivot_is) ∙ sym is ∙ ok)
+
+      pub column_judged :
+          {r : Judgement} {m' : List Float} →
+          r ≡ judgement (column_rules j (get_or m (packed_place n j j) nan) (get_or w j nan) finite_rows) (exact_root p) →
+          m' ≡ cond (accepted r.verdict) (store_column (packed_place n) j (drop j w') m) m → Judged n j m r m'
+      unfolding column_verdict column_exact
+      column_judged {r} er stored =
+          record {
+            result =
+                er
+                ∙ ap (λ p. judgement (column_rules j (get_or m (packed_place n j j) nan) (get_or w j nan) finite_rows) (exact_root p)) is
+                ∙ rules_are finite_rows
+                ∙ ap (λ f. judgement (column_rules j (entry (held n m) j j) x f) (exact_root (judged x)))
+                (divided.finites ∙ ap (all finite) (below_held n j m w w' d finite_rows size size' inside rows divided root_is));
+            matrix =
+                stored
+                ∙ ap (λ c. cond (accepted r.verdict) (store_column (packed_place n) j c m) m)
+                (column_held n j m w w' d finite_rows size size' inside rows divided root_is);
+          }
 
 -- ---- what a column leaves
 
@@ -168,3 +217,16 @@ module _ (n j : ℕ) (m m' : List Float) (r : Judgement) (inside : j < n) (g : J
       (λ c p. others_kept (j + 1) c (record { lower = omega arith; inside = omega arith }) (λ e. omega arith))
       ∙ ap (minus_products (λ c. get_or m (packed_place n i c) nan) (λ c. get_or m (packed_place n (j + 1) c) nan) j)
       (others_kept i (j + 1) (record { lower = omega arith; inside = h }) (λ e. omega arith)))
+
+  pub rows_wait :
+      (w w' : List Float) → Same 0 j w w' → (top : Option ℕ) → IfSome top (λ t. WaitingFrom n m (j + 1) t w) → IfSome top (λ t. WaitingFrom n m' (j + 1) t w')
+  rows_wait w w' same None h = tt
+  rows_wait w w' same (Some t) h =
+      let room = h.room in
+      let last : j + 1 - 1 ≡ j = omega arith in
+      record {
+        room = room;
+        rows = rw last
+            (λ r inside_r.
+            same r (omega arith) (omega (arith, room.room)) ∙ rw last at h.rows r inside_r ∙ waiting_kept (t + r) (omega (arith, room.low)) inside_r);
+      }

@@ -7,38 +7,25 @@ use Rattle.std.specs.Float.Ieee.{div}
 use Rattle.binary64.specs.Kinds.{finite}
 use Rattle.shape.specs.Bounds.{max_order}
 use Rattle.shape.specs.Places.{triangle, packed_place}
-use Rattle.calls.specs.declared.Judgement.{Judgement}
 use Rattle.calls.specs.Sequences.{all}
 use Rattle.calls.specs.Triangles.{Triangle, height, load, store_column, store}
 use Rattle.calls.specs.Arithmetic.{minus_products, factor_column, cholesky}
 use Rattle.calls.specs.Refusals.{accepted, column_verdict, column_exact}
-use Rattle.calls.specs.Judgements.{judgement}
+use Rattle.calls.specs.Judgements.{Judgement, judgement}
 use Rattle.calls.specs.Calls.{columns_judged}
 use Rattle.kernels.specs.Kernels.{Filled}
 
--- the sizes of order n, column j and memory m
-pub record Column (n j : ℕ) (m : List Float) : Type 0 where
+-- packed memory m of order n
+pub record Packed (n : ℕ) (m : List Float) : Type 0 where
   pub order : n ≤ max_order
-  pub column : j < n
   pub size : length m ≡ triangle n
-
--- `count` columns from column k on, all before j, and where column k's row 0 would stand
-pub record Group (n j k count base : ℕ) : Type 0 where
-  pub high : k + count ≤ j
-  pub start : base ≡ packed_place n 0 k
 
 -- the rows from `top` on of column j, whole tiles, have room at the front: no tile of column j − 1 or j reaches it
 pub record Room (n j top : ℕ) : Type 0 where
   pub low : j ≤ top
-  pub high : top ≤ n
+  pub inside : top < n
   pub tiles : (n - top) % 16 ≡ 0
   pub room : n ≤ top + (j - 16)
-
--- the rows from `top` on of column j wait while it is formed, or those from `next` on of column j + 1 are to wait then
-pub record Tops (n j top next : ℕ) : Type 0 where
-  pub here : Room n j top
-  pub after : Room n (j + 1) next
-  pub one : top < n → next ≡ n
 
 -- the places from `from` to `to` − 1 are as they were
 abbrev pub Same : ℕ → ℕ → List Float → List Float → Type 0
@@ -51,9 +38,9 @@ unfoldable pub less_products : ℕ → List Float → ℕ → ℕ → ℕ → �
 less_products n m j k count i x =
     minus_products (λ c. get_or m (packed_place n i (k + c)) nan) (λ c. get_or m (packed_place n j (k + c)) nan) count x
 
--- the 16 rows of a tile, row i + r at r
-abbrev pub TileReduced : ℕ → List Float → ℕ → ℕ → ℕ → ℕ → List Float → List Float → Type 0
-TileReduced n m j k count i tile tile' = (r : ℕ) → r < 16 → get_or tile' r nan ≡ less_products n m j k count (i + r) (get_or tile r nan)
+-- the rows of a tile of the given width, row i + r at r
+abbrev pub TileReduced : ℕ → ℕ → List Float → ℕ → ℕ → ℕ → ℕ → List Float → List Float → Type 0
+TileReduced width n m j k count i tile tile' = (r : ℕ) → r < width → get_or tile' r nan ≡ less_products n m j k count (i + r) (get_or tile r nan)
 
 -- `rows` rows from row i on, row i + r at s + r, and nothing else
 abbrev pub RowsReduced : ℕ → List Float → ℕ → ℕ → ℕ → ℕ → ℕ → ℕ → List Float → List Float → Type 0
@@ -87,18 +74,14 @@ Reduced n m j k from to w = (i : ℕ) → from ≤ i → i < to → get_or w i n
 abbrev pub Waiting : ℕ → List Float → ℕ → ℕ → ℕ → List Float → Type 0
 Waiting n m j k top w = (r : ℕ) → top + r < n → get_or w r nan ≡ reduced n m j k (top + r)
 
--- column j is reduced by all columns before it, and so are the rows from `next` on of column j + 1
-pub record Formed (n : ℕ) (m : List Float) (j next : ℕ) (w : List Float) : Type 0 where
-  pub rows : Reduced n m j j j n w
-  pub waiting : Waiting n m (j + 1) j next w
+-- they have room there, and are reduced by the columns before j − 1
+pub record WaitingFrom (n : ℕ) (m : List Float) (j top : ℕ) (w : List Float) : Type 0 where
+  pub room : Room n j top
+  pub rows : Waiting n m j (j - 1) top w
 
 -- the triangle that packed memory m holds
 abbrev pub held : ℕ → List Float → Triangle
 held n m = load (packed_place n) (height n) n m
-
--- the rows from `from` on divided by d, and nothing else
-abbrev pub RowsDivided : ℕ → Float → List Float → List Float → Type 0
-RowsDivided from d w w' = Filled nan from (length w - from) (λ r. div binary64 (get_or w (from + r) nan) d) w w'
 
 -- the column in w finished with its diagonal value d: the rows below it divided by d, and whether they are all finite
 pub record Divided (j : ℕ) (d : Float) (w w' : List Float) (finite_rows : Bool) : Type 0 where

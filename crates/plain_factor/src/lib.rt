@@ -2,363 +2,264 @@
 // column after it are reduced in the same pass over the matrix, and wait at the front of the work memory.
 #![tactic(auto)]
 
-ghost use Rattle.std.specs.Prelude.{◌≡◌, ◌+◌, ◌-◌, ◌%◌, ◌≤◌, ◌<◌, length, drop, replicate};
+ghost use Rattle.std.specs.Prelude.{◌≡◌, ℕ, ◌+◌, ◌-◌, ◌≤◌, ◌<◌, IfSome, length, get_or, drop, min, replicate};
+ghost use Rattle.std.specs.Float.{nan, binary64};
+ghost use Rattle.std.specs.Float.Ieee.{div};
 ghost use Rattle.binary64.specs.Kinds.{zero64};
 ghost use Rattle.shape.specs.Bounds.{max_order};
 ghost use Rattle.shape.specs.Places.{triangle, packed_place};
 ghost use Rattle.calls.specs.Triangles.{store_column};
-ghost use Rattle.calls.specs.Calls.{DoneAs, factorize};
-ghost use Rattle.plain_factor.specs.Steps.{Column, Group, Room, Tops, Same, less_products, TileReduced, RowsReduced, GroupReduced, PairReduced};
-ghost use Rattle.plain_factor.specs.Steps.{Reduced, Waiting, Formed, RowsDivided, Divided, Judged, Factored};
+ghost use Rattle.calls.specs.Calls.{DoneAs, judged_result, factorize};
+ghost use Rattle.calls.specs.Outcomes.{judgement_of, answer_of};
+ghost use Rattle.plain_factor.specs.Steps.{Packed, Room, Same, less_products, TileReduced, RowsReduced, GroupReduced, PairReduced};
+ghost use Rattle.plain_factor.specs.Steps.{reduced, Reduced, Waiting, WaitingFrom, Divided, Judged, Factored};
 
 use binary64::Pivot;
-use calls::{Call, CallResult, Judgement, Layout};
+use calls::{Call, CallResult, Layout, Refusal, Success};
 use shape::Shape;
 
 // The place of entry (i, k), less i. The product is even, so the division is exact.
 fn row_start(n: usize, k: usize) -> usize
-    requires { (n ≤ max_order) × (0 < n) × (k ≤ n) }
-    ensures { result ≡ packed_place n 0 k }
+    requires { (n ≤ max_order) × (k < n) }
+    ensures place { result ≡ packed_place n 0 k }
+    ensures fits { result + n ≤ triangle n }
 {
     k * (2 * n - k - 1) / 2
 }
 
-// The rows of a tile from row i on, less their products in `count` columns from column k on.
-fn reduce_tile(
-    tile: [f64; 16],
-    matrix: &[f64],
+// `count` columns of packed memory of order n, from column k on, where column k's row 0 would stand at `base`.
+#[derive(Clone, Copy)]
+struct Group<'a> {
+    matrix: &'a [f64],
     n: usize,
-    j: usize,
     k: usize,
     count: usize,
     base: usize,
-    i: usize,
-) -> [f64; 16]
-    requires column { Column n j matrix.now }
-    requires group { Group n j k count base }
-    requires i_bound { i + 16 ≤ n }
-    ensures { TileReduced n matrix.now j k count i tile result }
-{
-    let mut reduced = tile;
-    let mut start = base;
-    let mut c = 0;
-    while c < count {
-        let next = kernels::step16(reduced, matrix, start + i, matrix[start + j]);
-        reduced = next;
-        start += n - k - c - 1;
-        c += 1;
-    }
-    reduced
+    ghost memory: { Packed n matrix.now },
+    ghost high: { k + count ≤ n },
+    ghost start: { base ≡ packed_place n 0 k },
 }
 
-// Row i less its products in these columns.
-fn reduce_row(
-    row: f64,
-    matrix: &[f64],
+impl Group<'_> {
+    // W rows from row i on, less their products with row j in the first `count` columns.
+    fn reduce_tile<const W: usize>(
+        &self,
+        rows: [f64; W],
+        j: usize,
+        i: usize,
+        count: usize,
+    ) -> [f64; W]
+        requires { (j < self.now.n) × (i + W ≤ self.now.n) × (count ≤ self.now.count) }
+        ensures { TileReduced W self.now.n self.now.matrix.now j self.now.k count i rows.entry result }
+    {
+        let mut reduced = rows;
+        let mut start = self.base;
+        for c in 0..count {
+            reduced = kernels::step(reduced, self.matrix, start + i, self.matrix[start + j]);
+            start += self.n - self.k - c - 1;
+        }
+        reduced
+    }
+
+    // The 16 rows from row i on, which lie from place s on. A whole group has its count written out, so that its loop is unrolled.
+    fn reduce_part(&self, work: &mut [f64], j: usize, i: usize, s: usize)
+        requires { (j < self.now.n) × (i + 16 ≤ self.now.n) × (s + 16 ≤ length work.old) }
+        ensures { RowsReduced self.now.n self.now.matrix.now j self.now.k self.now.count i s 16 work.old work.new }
+    {
+        let rows = kernels::load::<16>(work, s);
+        let reduced = if self.count == 8 {
+            self.reduce_tile(rows, j, i, 8)
+        } else {
+            self.reduce_tile(rows, j, i, self.count)
+        };
+        kernels::store(work, s, reduced);
+    }
+
+    // The rows of column j before `to`: in tiles that end there, whose rows above the column do not count, and one by one before the tiles that have room.
+    fn reduce(&self, work: &mut [f64], j: usize, to: usize)
+        requires { (length work.old ≡ self.now.n) × (j ≤ to) × (to ≤ self.now.n) × (j < self.now.n) }
+        ensures { GroupReduced self.now.n self.now.matrix.now j self.now.k self.now.count to work.old work.new }
+    {
+        let tiles = (to - j).div_ceil(16).min(to / 16);
+        let first = to - 16 * tiles;
+        for i in j..first {
+            let [row] = self.reduce_tile([work[i]], j, i, self.count);
+            work[i] = row;
+        }
+        for i in (first..to).step_by(16) {
+            self.reduce_part(work, j, i, i);
+        }
+    }
+
+    // The rows from `top` on of column j, row i at i, and of column j + 1, row i at i − top.
+    fn reduce_pair(&self, work: &mut [f64], j: usize, top: usize)
+        requires work_len { length work.old ≡ self.now.n }
+        requires room { Room self.now.n (j + 1) top }
+        ensures { PairReduced self.now.n self.now.matrix.now j self.now.k self.now.count top (self.now.n - top) work.old work.new }
+    {
+        for i in (top..self.n).step_by(16) {
+            self.reduce_part(work, j, i, i);
+            self.reduce_part(work, j + 1, i, i - top);
+        }
+    }
+}
+
+// Column j of packed memory of order n. The work memory is no field, though each step asks for its length: clauses on `self.new.work.now` read no plainer.
+#[derive(Clone, Copy)]
+struct Column<'a> {
+    matrix: &'a [f64],
     n: usize,
     j: usize,
-    k: usize,
-    count: usize,
-    base: usize,
-    i: usize,
-) -> f64
-    requires column { Column n j matrix.now }
-    requires group { Group n j k count base }
-    requires i_lt_n { i < n }
-    ensures { result ≡ less_products n matrix.now j k count i row }
-{
-    let mut rest = row;
-    let mut start = base;
-    let mut c = 0;
-    while c < count {
-        rest = rest - matrix[start + i] * matrix[start + j];
-        start += n - k - c - 1;
-        c += 1;
+    ghost memory: { Packed n matrix.now },
+    ghost inside: { j < n },
+}
+
+impl<'a> Column<'a> {
+    // The columns before it from column k on, at most eight.
+    fn group(&self, k: usize) -> Group<'a>
+        requires { k < self.now.j }
+        ensures memory { (result.matrix.now ≡ self.now.matrix.now) × (result.n ≡ self.now.n) }
+        ensures columns { (result.k ≡ k) × (result.count ≡ min (self.now.j - k) 8) }
+    {
+        Group {
+            matrix: self.matrix,
+            n: self.n,
+            k,
+            count: (self.j - k).min(8),
+            base: row_start(self.n, k),
+        }
     }
-    rest
-}
 
-// The 16 rows from row i on, which lie from place s on. A whole group has its count written out, so that its loop is unrolled.
-fn reduce_part(
-    work: &mut [f64],
-    matrix: &[f64],
-    n: usize,
-    j: usize,
-    k: usize,
-    count: usize,
-    base: usize,
-    i: usize,
-    s: usize,
-)
-    requires column { Column n j matrix.now }
-    requires group { Group n j k count base }
-    requires i_bound { (i + 16 ≤ n) × (s + 16 ≤ length work.old) }
-    ensures { RowsReduced n matrix.now j k count i s 16 work.old work.new }
-{
-    let tile = kernels::load16(work, s);
-    let reduced = if count == 8 {
-        reduce_tile(tile, matrix, n, j, k, 8, base, i)
-    } else {
-        reduce_tile(tile, matrix, n, j, k, count, base, i)
-    };
-    kernels::store16(work, s, reduced);
-}
-
-// The rows from `first` to `to` − 1, in tiles.
-fn reduce_tiles(
-    work: &mut [f64],
-    matrix: &[f64],
-    n: usize,
-    j: usize,
-    k: usize,
-    count: usize,
-    base: usize,
-    first: usize,
-    to: usize,
-)
-    requires column { Column n j matrix.now }
-    requires group { Group n j k count base }
-    requires work_len { (length work.old ≡ n) × (first ≤ to) × (to ≤ n) × ((to - first) % 16 ≡ 0) }
-    ensures { RowsReduced n matrix.now j k count first first (to - first) work.old work.new }
-{
-    let mut i = first;
-    while i < to {
-        reduce_part(work, matrix, n, j, k, count, base, i, i);
-        i += 16;
+    // The rows before `to`, reduced by all columns before it.
+    fn reduce(&self, work: &mut [f64], to: usize)
+        requires work_len { (length work.old ≡ self.now.n) × (self.now.j ≤ to) × (to ≤ self.now.n) }
+        requires loaded { Reduced self.now.n self.now.matrix.now self.now.j 0 self.now.j to work.old }
+        ensures reduced { Reduced self.now.n self.now.matrix.now self.now.j self.now.j self.now.j to work.new }
+        ensures above { Same 0 (self.now.j - 15) work.old work.new }
+        ensures below { Same to self.now.n work.old work.new }
+    {
+        for k in (0..self.j).step_by(8) {
+            self.group(k).reduce(work, self.j, to);
+        }
     }
-}
 
-// The rows before `to`, one by one.
-fn reduce_rows(
-    work: &mut [f64],
-    matrix: &[f64],
-    n: usize,
-    j: usize,
-    k: usize,
-    count: usize,
-    base: usize,
-    to: usize,
-)
-    requires column { Column n j matrix.now }
-    requires group { Group n j k count base }
-    requires work_len { (length work.old ≡ n) × (j ≤ to) × (to ≤ n) }
-    ensures { RowsReduced n matrix.now j k count j j (to - j) work.old work.new }
-{
-    let mut i = j;
-    while i < to {
-        work[i] = reduce_row(work[i], matrix, n, j, k, count, base, i);
-        i += 1;
+    // The rows from `top` on, row i at i, and those of the column after it, row i at i − top, reduced by all columns before both.
+    fn reduce_pair(&self, work: &mut [f64], top: usize)
+        requires work_len { length work.old ≡ self.now.n }
+        requires room { Room self.now.n (self.now.j + 1) top }
+        requires loaded { Reduced self.now.n self.now.matrix.now self.now.j 0 top self.now.n work.old }
+        requires waiting { Waiting self.now.n self.now.matrix.now (self.now.j + 1) 0 top work.old }
+        ensures reduced { Reduced self.now.n self.now.matrix.now self.now.j self.now.j top self.now.n work.new }
+        ensures next { Waiting self.now.n self.now.matrix.now (self.now.j + 1) self.now.j top work.new }
+        ensures between { Same (self.now.n - top) top work.old work.new }
+    {
+        for k in (0..self.j).step_by(8) {
+            self.group(k).reduce_pair(work, self.j, top);
+        }
     }
-}
 
-// The rows before `to`, reduced by the group. Rows above the column do not count.
-fn reduce_group(
-    work: &mut [f64],
-    matrix: &[f64],
-    n: usize,
-    j: usize,
-    k: usize,
-    count: usize,
-    base: usize,
-    to: usize,
-)
-    requires column { Column n j matrix.now }
-    requires group { Group n j k count base }
-    requires work_len { (length work.old ≡ n) × (j ≤ to) × (to ≤ n) }
-    ensures { GroupReduced n matrix.now j k count to work.old work.new }
-{
-    let rest = to % 16;
-    if j < rest {
-        reduce_rows(work, matrix, n, j, k, count, base, rest);
-        reduce_tiles(work, matrix, n, j, k, count, base, rest, to);
-    } else {
-        reduce_tiles(work, matrix, n, j, k, count, base, j - (j - rest) % 16, to);
+    // The entry values of its rows from `from` on.
+    fn load(&self, rows: &mut [f64], from: usize)
+        requires { from + length rows.old ≤ self.now.n }
+        ensures { (r : ℕ) → r < length rows.new → get_or rows.new r nan ≡ reduced self.now.n self.now.matrix.now self.now.j 0 (from + r) }
+    {
+        let start = row_start(self.n, self.j) + from;
+        // A loop: with `copy_from_slice` the factor was measured 12 % slower, since the code after the C library's wide moves is.
+        for r in 0..rows.len() {
+            rows[r] = self.matrix[start + r];
+        }
     }
-}
 
-// How many columns the group that begins with column k has.
-fn group_count(j: usize, k: usize) -> usize
-    requires { k < j }
-    ensures { (0 < result) × (k + result ≤ j) }
-{
-    if j - k < 8 { j - k } else { 8 }
-}
-
-// The rows before `to`, reduced by all columns before j, eight at a time.
-fn reduce_column(work: &mut [f64], matrix: &[f64], n: usize, j: usize, to: usize)
-    requires column { Column n j matrix.now }
-    requires work_len { (length work.old ≡ n) × (j ≤ to) × (to ≤ n) }
-    requires reduced { Reduced n matrix.now j 0 j to work.old }
-    ensures reduced_2 { Reduced n matrix.now j j j to work.new }
-    ensures same { Same 0 (j - 15) work.old work.new }
-    ensures same_2 { Same to n work.old work.new }
-{
-    let mut k = 0;
-    while k < j {
-        let count = group_count(j, k);
-        let base = row_start(n, k);
-        reduce_group(work, matrix, n, j, k, count, base, to);
-        k += count;
+    // The rows from `top` on, brought from the front to their places and reduced by the column before.
+    fn take_waiting(&self, work: &mut [f64], top: usize)
+        requires work_len { length work.old ≡ self.now.n }
+        requires room { Room self.now.n self.now.j top }
+        requires waiting { Waiting self.now.n self.now.matrix.now self.now.j (self.now.j - 1) top work.old }
+        ensures { Reduced self.now.n self.now.matrix.now self.now.j self.now.j top self.now.n work.new }
+    {
+        let last = row_start(self.n, self.j - 1);
+        let x = self.matrix[last + self.j];
+        for i in top..self.n {
+            work[i] = work[i - top] - self.matrix[last + i] * x;
+        }
     }
-}
 
-// The rows from `top` on of column j, row i at i, and of column j + 1, row i at i − top, reduced by the group.
-fn reduce_pair_tiles(
-    work: &mut [f64],
-    matrix: &[f64],
-    n: usize,
-    j: usize,
-    k: usize,
-    count: usize,
-    base: usize,
-    top: usize,
-)
-    requires column { Column n j matrix.now }
-    requires group { Group n j k count base }
-    requires work_len { length work.old ≡ n }
-    requires room { Room n (j + 1) top }
-    ensures { PairReduced n matrix.now j k count top (n - top) work.old work.new }
-{
-    let mut i = top;
-    while i < n {
-        reduce_part(work, matrix, n, j, k, count, base, i, i);
-        reduce_part(work, matrix, n, j + 1, k, count, base, i, i - top);
-        i += 16;
+    // The column, of which no row waits.
+    fn form_alone(&self, work: &mut [f64])
+        requires work_len { length work.old ≡ self.now.n }
+        ensures { Reduced self.now.n self.now.matrix.now self.now.j self.now.j self.now.j self.now.n work.new }
+    {
+        self.load(&mut work[self.j..], self.j);
+        self.reduce(work, self.n);
+    }
+
+    // The same, and the rows from `next` on of the column after it, which are to wait.
+    fn form_pair(&self, work: &mut [f64], next: usize)
+        requires work_len { length work.old ≡ self.now.n }
+        requires room { Room self.now.n (self.now.j + 1) next }
+        ensures rows { Reduced self.now.n self.now.matrix.now self.now.j self.now.j self.now.j self.now.n work.new }
+        ensures next { Waiting self.now.n self.now.matrix.now (self.now.j + 1) self.now.j next work.new }
+    {
+        let after = Column {
+            matrix: self.matrix,
+            n: self.n,
+            j: self.j + 1,
+        };
+        self.load(&mut work[self.j..], self.j);
+        after.load(&mut work[..self.n - next], next);
+        self.reduce_pair(work, next);
+        self.reduce(work, next);
+    }
+
+    // The column, of which the rows from `top` on wait at the front.
+    fn form_waiting(&self, work: &mut [f64], top: usize)
+        requires work_len { length work.old ≡ self.now.n }
+        requires room { Room self.now.n self.now.j top }
+        requires waiting { Waiting self.now.n self.now.matrix.now self.now.j (self.now.j - 1) top work.old }
+        ensures { Reduced self.now.n self.now.matrix.now self.now.j self.now.j self.now.j self.now.n work.new }
+    {
+        self.take_waiting(work, top);
+        self.load(&mut work[self.j..top], self.j);
+        self.reduce(work, top);
+    }
+
+    // The row from which on the column after it is reduced beside it. These are whole tiles, below the diagonals of both and no more than fit before the 15
+    // rows above this one that its first tile may reach.
+    fn top_after(&self) -> Option<usize>
+        ensures { IfSome result (λ top. Room self.now.n (self.now.j + 1) top) }
+    {
+        let below = self.n - self.j - 1;
+        let room = self.j.saturating_sub(15);
+        let rows = below.min(room) / 16 * 16;
+        if rows == 0 { None } else { Some(self.n - rows) }
+    }
+
+    // The column, of which the rows from `top` on wait, if any. Answers the row from which on the column after it waits now, if any.
+    fn form(&self, work: &mut [f64], top: Option<usize>) -> Option<usize>
+        requires work_len { length work.old ≡ self.now.n }
+        requires waiting { IfSome top (λ top. WaitingFrom self.now.n self.now.matrix.now self.now.j top work.old) }
+        ensures rows { Reduced self.now.n self.now.matrix.now self.now.j self.now.j self.now.j self.now.n work.new }
+        ensures next { IfSome result (λ top. WaitingFrom self.now.n self.now.matrix.now (self.now.j + 1) top work.new) }
+    {
+        if let Some(top) = top {
+            self.form_waiting(work, top);
+            return None;
+        }
+        let next = self.top_after();
+        match next {
+            Some(next) => self.form_pair(work, next),
+            None => self.form_alone(work),
+        }
+        next
     }
 }
 
-// Those rows, reduced by all columns before j, eight at a time.
-fn reduce_pair(work: &mut [f64], matrix: &[f64], n: usize, j: usize, top: usize)
-    requires column { Column n j matrix.now }
-    requires work_len { length work.old ≡ n }
-    requires room { Room n (j + 1) top }
-    requires reduced { Reduced n matrix.now j 0 top n work.old }
-    requires waiting { Waiting n matrix.now (j + 1) 0 top work.old }
-    ensures reduced_2 { Reduced n matrix.now j j top n work.new }
-    ensures waiting_2 { Waiting n matrix.now (j + 1) j top work.new }
-    ensures same { Same (n - top) top work.old work.new }
+// The rows divided by the diagonal value.
+fn divide(rows: &mut [f64], diagonal: f64)
+    ensures { (r : ℕ) → r < length rows.old → get_or rows.new r nan ≡ div binary64 (get_or rows.old r nan) diagonal }
 {
-    let mut k = 0;
-    while k < j {
-        let count = group_count(j, k);
-        let base = row_start(n, k);
-        reduce_pair_tiles(work, matrix, n, j, k, count, base, top);
-        k += count;
-    }
-}
-
-// The entry values of the column's rows before `to`, row i at i.
-fn load_column(work: &mut [f64], matrix: &[f64], n: usize, j: usize, to: usize)
-    requires column { Column n j matrix.now }
-    requires work_len { (length work.old ≡ n) × (j ≤ to) × (to ≤ n) }
-    ensures reduced { Reduced n matrix.now j 0 j to work.new }
-    ensures same { Same to n work.old work.new }
-{
-    let base = row_start(n, j);
-    let mut i = j;
-    while i < to {
-        work[i] = matrix[base + i];
-        i += 1;
-    }
-}
-
-// The entry values of column j + 1's rows from `top` on, row i at i − top.
-fn load_waiting(work: &mut [f64], matrix: &[f64], n: usize, j: usize, top: usize)
-    requires column { Column n j matrix.now }
-    requires work_len { length work.old ≡ n }
-    requires room { Room n (j + 1) top }
-    ensures waiting { Waiting n matrix.now (j + 1) 0 top work.new }
-    ensures same { Same (n - top) n work.old work.new }
-{
-    let base = row_start(n, j + 1);
-    let mut i = top;
-    while i < n {
-        work[i - top] = matrix[base + i];
-        i += 1;
-    }
-}
-
-// The rows from `top` on, brought from the front to their places and reduced by column j − 1.
-fn take_waiting(work: &mut [f64], matrix: &[f64], n: usize, j: usize, top: usize)
-    requires column { Column n j matrix.now }
-    requires work_len { length work.old ≡ n }
-    requires top_lt_n { (top < n) × Room n j top }
-    requires waiting { Waiting n matrix.now j (j - 1) top work.old }
-    ensures { Reduced n matrix.now j j top n work.new }
-{
-    let last = row_start(n, j - 1);
-    let x = matrix[last + j];
-    let mut i = top;
-    while i < n {
-        work[i] = work[i - top] - matrix[last + i] * x;
-        i += 1;
-    }
-}
-
-// Column j, and the rows from `next` on of column j + 1, reduced by the columns before j.
-fn form_pair(work: &mut [f64], matrix: &[f64], n: usize, j: usize, next: usize)
-    requires column { Column n j matrix.now }
-    requires work_len { length work.old ≡ n }
-    requires room { Room n (j + 1) next }
-    ensures { Formed n matrix.now j next work.new }
-{
-    load_column(work, matrix, n, j, n);
-    load_waiting(work, matrix, n, j, next);
-    reduce_pair(work, matrix, n, j, next);
-    reduce_column(work, matrix, n, j, next);
-}
-
-// Column j, of which the rows from `top` on wait at the front.
-fn form_waiting(work: &mut [f64], matrix: &[f64], n: usize, j: usize, top: usize)
-    requires column { Column n j matrix.now }
-    requires work_len { length work.old ≡ n }
-    requires top_lt_n { (top < n) × Room n j top }
-    requires waiting { Waiting n matrix.now j (j - 1) top work.old }
-    ensures { Reduced n matrix.now j j j n work.new }
-{
-    take_waiting(work, matrix, n, j, top);
-    load_column(work, matrix, n, j, top);
-    reduce_column(work, matrix, n, j, top);
-}
-
-// Column j, some rows of which wait, or the next rows of column j + 1 with it.
-fn form_column(work: &mut [f64], matrix: &[f64], n: usize, j: usize, top: usize, next: usize)
-    requires column { Column n j matrix.now }
-    requires work_len { length work.old ≡ n }
-    requires tops { Tops n j top next }
-    requires waiting { Waiting n matrix.now j (j - 1) top work.old }
-    ensures { Formed n matrix.now j next work.new }
-{
-    if top < n {
-        form_waiting(work, matrix, n, j, top);
-    } else {
-        form_pair(work, matrix, n, j, next);
-    }
-}
-
-// The rows from `from` on divided by the diagonal value.
-fn divide(work: &mut [f64], from: usize, diagonal: f64)
-    requires { from ≤ length work.old }
-    ensures { RowsDivided from diagonal work.old work.new }
-{
-    let mut i = from;
-    while i < work.len() {
-        work[i] = work[i] / diagonal;
-        i += 1;
-    }
-}
-
-// The finished column, row i at i, written to the matrix.
-fn store_column(matrix: &mut [f64], work: &[f64], n: usize, j: usize)
-    requires column { Column n j matrix.old }
-    requires work_len { length work.now ≡ n }
-    ensures { matrix.new ≡ store_column (packed_place n) j (drop j work.now) matrix.old }
-{
-    let base = row_start(n, j);
-    let mut i = j;
-    while i < n {
-        matrix[base + i] = work[i];
-        i += 1;
+    for row in rows.iter_mut() {
+        *row = *row / diagonal;
     }
 }
 
@@ -367,121 +268,85 @@ fn divide_rows(work: &mut [f64], j: usize, diagonal: f64) -> bool
     requires { j < length work.old }
     ensures { Divided j diagonal work.old work.new result }
 {
-    let below = j + 1;
-    divide(work, below, diagonal);
     work[j] = diagonal;
-    checks::all_finite(&work[below..])
+    let below = &mut work[j + 1..];
+    divide(below, diagonal);
+    checks::all_finite(below)
+}
+
+// The finished column, row i at i, written to the matrix.
+fn store_column(matrix: &mut [f64], work: &[f64], n: usize, j: usize)
+    requires memory { Packed n matrix.old }
+    requires work_len { (length work.now ≡ n) × (j < n) }
+    ensures { matrix.new ≡ store_column (packed_place n) j (drop j work.now) matrix.old }
+{
+    let start = row_start(n, j);
+    // A loop, as in `load`.
+    for i in j..n {
+        matrix[start + i] = work[i];
+    }
 }
 
 // The column that is formed in the work memory, judged, and written to the matrix where it is accepted.
-fn finish_column(matrix: &mut [f64], work: &mut [f64], n: usize, j: usize) -> Judgement
-    requires column { Column n j matrix.old }
-    requires work_len { length work.old ≡ n }
+fn finish_column(matrix: &mut [f64], work: &mut [f64], n: usize, j: usize) -> Result<bool, Refusal>
+    requires memory { Packed n matrix.old }
+    requires work_len { (length work.old ≡ n) × (j < n) }
     requires reduced { Reduced n matrix.old j j j n work.old }
-    ensures judged { Judged n j matrix.old result matrix.new }
+    ensures judged { Judged n j matrix.old (judgement_of result) matrix.new }
     ensures same { Same 0 j work.old work.new }
 {
     let entered = matrix[row_start(n, j) + j];
     let value = work[j];
     let pivot = binary64::judge(value);
-    match pivot {
-        Pivot::Refused(_) => checks::judge_column(j, entered, value, pivot, true),
-        Pivot::Root(diagonal, _) => {
-            let finite = divide_rows(work, j, diagonal);
-            let judged = checks::judge_column(j, entered, value, pivot, finite);
-            let verdict = judged.verdict;
-            if calls::accepted(verdict) {
-                store_column(matrix, work, n, j);
-            }
-            judged
-        }
-    }
-}
-
-fn factor_column(
-    matrix: &mut [f64],
-    work: &mut [f64],
-    n: usize,
-    j: usize,
-    top: usize,
-    next: usize,
-) -> Judgement
-    requires column { Column n j matrix.old }
-    requires work_len { length work.old ≡ n }
-    requires tops { Tops n j top next }
-    requires waiting { Waiting n matrix.old j (j - 1) top work.old }
-    ensures judged { Judged n j matrix.old result matrix.new }
-    ensures waiting_2 { Waiting n matrix.new (j + 1) j next work.new }
-{
-    form_column(work, matrix, n, j, top, next);
-    finish_column(matrix, work, n, j)
-}
-
-// The row from which on column j + 1 is reduced beside column j; n where rows of column j wait themselves. These are whole tiles, below the diagonals
-// of both and no more than fit before the 15 rows above column j that its first tile may reach.
-fn next_top(n: usize, j: usize, top: usize) -> usize
-    requires { j < n }
-    ensures room { Room n (j + 1) result }
-    ensures value { top < n → result ≡ n }
-{
-    if top < n || j < 15 {
-        return n;
-    }
-    let below = n - j - 1;
-    let room = j - 15;
-    if below < room {
-        n - below / 16 * 16
-    } else {
-        n - room / 16 * 16
-    }
+    let finite = match pivot {
+        Pivot::Root(diagonal, _) => divide_rows(work, j, diagonal),
+        Pivot::Refused(_) => true,
+    };
+    let exact = checks::judge_column(j, entered, value, pivot, finite)?;
+    store_column(matrix, work, n, j);
+    Ok(exact)
 }
 
 // The columns in rising order, and none after the first that is refused.
-fn factor_columns(matrix: &mut [f64], work: &mut [f64], n: usize) -> Judgement
+fn factor_columns(matrix: &mut [f64], work: &mut [f64], n: usize) -> Result<bool, Refusal>
     requires { (n ≤ max_order) × (length matrix.old ≡ triangle n) × (length work.old ≡ n) }
-    ensures { Factored n matrix.old result matrix.new }
+    ensures { Factored n matrix.old (judgement_of result) matrix.new }
 {
-    let mut judged = Judgement {
-        verdict: calls::refusal(0, 0),
-        exact: true,
-    };
-    let mut top = n;
-    let mut j = 0;
-    while j < n {
-        let next = next_top(n, j, top);
-        let column = factor_column(matrix, work, n, j, top, next);
-        let joined = calls::joined(judged, column);
-        let verdict = joined.verdict;
-        if !calls::accepted(verdict) {
-            return joined;
-        }
-        judged = joined;
-        top = next;
-        j += 1;
+    let mut exact = true;
+    let mut top = None;
+    for j in 0..n {
+        let column = Column { matrix, n, j };
+        top = column.form(work, top);
+        exact &= finish_column(matrix, work, n, j)?;
     }
-    judged
+    Ok(exact)
 }
 
-// All columns, with the work memory cleared afterwards.
-pub fn factor_cleared(matrix: &mut [f64], work: &mut [f64], n: usize) -> Judgement
+// All columns, with the work memory cleared afterwards. Answers whether every root is exact.
+pub fn factor_cleared(matrix: &mut [f64], work: &mut [f64], n: usize) -> Result<bool, Refusal>
     requires { (n ≤ max_order) × (length matrix.old ≡ triangle n) × (length work.old ≡ n) }
-    ensures factored { Factored n matrix.old result matrix.new }
+    ensures factored { Factored n matrix.old (judgement_of result) matrix.new }
     ensures work_after { work.new ≡ replicate n zero64 }
 {
-    let judged = factor_columns(matrix, work, n);
+    let exact = factor_columns(matrix, work, n);
     checks::clear(work);
-    judged
+    exact
+}
+
+// What the call comes to.
+fn factor_checked(shape: Shape, matrix: &mut [f64], work: &mut [f64]) -> Result<Success, Refusal>
+    ensures { DoneAs (factorize Layout.Packed shape matrix.old work.old) (judged_result (Call.Factor Layout.Packed) shape (answer_of result)) matrix.new work.new }
+{
+    checks::check_factor(Layout::Packed, shape, matrix, work.len())?;
+    let n = shape.order;
+    let exact = factor_cleared(matrix, &mut work[..n], n)?;
+    Ok(Success { value: 0.0, exact })
 }
 
 // The plain factor of packed memory.
 pub fn factor(shape: Shape, matrix: &mut [f64], work: &mut [f64]) -> CallResult
     ensures { DoneAs (factorize Layout.Packed shape matrix.old work.old) result matrix.new work.new }
 {
-    let call = Call::Factor(Layout::Packed);
-    let checks = checks::check_factor(Layout::Packed, shape, matrix, work.len());
-    if !calls::accepted(checks) {
-        return calls::result(call, shape, checks);
-    }
-    let n = shape.order;
-    calls::judged_result(call, shape, factor_cleared(matrix, &mut work[..n], n))
+    let outcome = factor_checked(shape, matrix, work);
+    calls::result(Call::Factor(Layout::Packed), shape, outcome)
 }

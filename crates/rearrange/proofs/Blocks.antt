@@ -8,7 +8,6 @@ use native.Mathlib.Decide.{dec_lt}
 use native.Mathlib.Omega.{arith}
 use lib.ListN.{length, get_or, take, drop}
 use lib.Ieee.{Float, nan}
-use Rattle.shape.specs.Bounds.{max_order}
 use Rattle.shape.specs.Places.{triangle, block_of, block_start, width, block_work}
 use Rattle.shape.specs.Layouts.{Entry}
 use Rattle.shape.proofs.Columns.{block_start_double, block_start_split}
@@ -20,11 +19,12 @@ use Rattle.calls.specs.Calls.{moved}
 use Rattle.calls.proofs.Rearranging.{layout_bijection, transfer_entries}
 use Rattle.kernels.specs.Kernels.{Replaced}
 use Rattle.kernels.proofs.Parts.{length_part, get_d_part, part_replaced}
-use Rattle.rearrange.specs.Moves.{other, place_in_part, Sizes, MovedWithin}
+use Rattle.rearrange.specs.Moves.{other, place_in_part, Held, MovedWithin}
 use Rattle.rearrange.proofs.Places.{place_in_part_lt, place_before, place_of_part}
 
 -- the columns before c are moved, and the places from column c on as they were
 pub record MovedBefore (to : Layout) (n b c : ℕ) (m m' : List Float) : Type 0 where
+  pub size : length m' ≡ length m
   pub moved : (i j : ℕ) → Entry n i j → j < c → get_or m' (place_of to n b i j) nan ≡ get_or m (place_of (other to) n b i j) nan
   pub kept : (p : ℕ) → block_start n (min c n) ≤ p → p < triangle n → get_or m' p nan ≡ get_or m p nan
 
@@ -50,29 +50,25 @@ block_start_part n b c h =
     )
 
 -- the rest of the matrix holds the block column, and so does the work memory
-pub part_sizes : (n b c at n' w : ℕ) (m work : List Float)
-    → n ≤ max_order
+pub part_held : (n b c at n' w : ℕ) (m work : List Float)
     → c ≤ n
     → at ≡ block_start n c
     → n' ≡ n - c
     → w ≡ width n b c
     → length m ≡ triangle n
     → block_work n b ≤ length work
-    → Sizes n' w (take (length m - at) (drop at m)) work
-part_sizes n b c at n' w m work order h start rows columns whole enough =
+    → Held n' w (take (length m - at) (drop at m)) work
+part_held n b c at n' w m work h start rows columns whole enough =
     let whole-rest : length (take (length m - at) (drop at m)) ≡ length m - at =
-    length_part nan at (length m - at) m (omega (arith, block_start_part n b c h)) in
-    record {
-      order = omega arith;
-      width = omega (arith, width_le n b c);
-      source_holds = rw (rows, columns) (omega (arith, whole-rest, block_start_part n b c h));
-      target_holds = rw (rows, columns) (omega (arith, block_start_work n b c h));
-    }
+    length_part nan at (length m - at) m (omega (arith, block_start_part n b c h)) in (
+      rw (rows, columns) (omega (arith, whole-rest, block_start_part n b c h)),
+      rw (rows, columns) (omega (arith, block_start_work n b c h)),
+    )
 
 -- ---- the first and the next block column
 
 pub moved_before_first : (to : Layout) (n b : ℕ) (m : List Float) → MovedBefore to n b 0 m m
-moved_before_first to n b m = record { moved = λ i j e h. absurd (omega arith); kept = λ p h inside. refl }
+moved_before_first to n b m = record { size = refl; moved = λ i j e h. absurd (omega arith); kept = λ p h inside. refl }
 
 module _ (to : Layout) (n b c at n' w : ℕ) (m m' part : List Float)
     (positive : 0 < b)
@@ -127,6 +123,7 @@ module _ (to : Layout) (n b c at n' w : ℕ) (m m' part : List Float)
     unfolding width
     moved_before_next =
         record {
+          size = put.size ∙ before.size;
           moved = λ i j e h.
               elim (dec_lt j c) [
                 | yes p ↦
@@ -157,10 +154,9 @@ pub moved_all : (to : Layout) (n b c : ℕ) (m m' : List Float)
     → 0 < b
     → n ≤ c
     → length m ≡ triangle n
-    → length m' ≡ triangle n
     → MovedBefore to n b c m m'
     → m' ≡ moved (other to) to n b m
 unfolding moved
-moved_all to n b c m m' positive all whole whole' before =
-    transfer_entries (place_of (other to) n b) (place_of to n b) n (layout_bijection to n b positive) m m whole m' whole'
+moved_all to n b c m m' positive all whole before =
+    transfer_entries (place_of (other to) n b) (place_of to n b) n (layout_bijection to n b positive) m m whole m' (before.size ∙ whole)
     (λ i j e. before.moved i j e (omega (arith, e.lower, e.inside)))

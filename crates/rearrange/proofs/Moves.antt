@@ -17,14 +17,15 @@ use Rattle.kernels.specs.Kernels.{Replaced}
 use Rattle.kernels.proofs.Parts.{prefix_replaced}
 use Rattle.kernels.proofs.Transfers as Transfers
 use Rattle.kernels.proofs.Transfers.{moved_no_rows, join_rows}
-use Rattle.rearrange.specs.Moves.{other, in_layout, place_in_part, InColumn, Sizes, Moved, MovedWithin}
+use Rattle.rearrange.specs.Moves.{other, in_layout, place_in_part, InColumn, Held, Moved, MovedWithin}
 use Rattle.rearrange.proofs.Places.{place_in_part_lt, place_in_part_apart}
 
 -- the columns of a row end with its diagonal
-pub to_diagonal : (to : Layout) (n w : ℕ) {source : List Float} {r left right : ℕ} {t t' : List Float}
-    → Moved to n w r (r + 1) left (r + 1) source t t'
+pub to_diagonal : (to : Layout) (n w : ℕ) {source : List Float} {r left mid right : ℕ} {t t' : List Float}
+    → mid ≡ r + 1
+    → Moved to n w r (r + 1) left mid source t t'
     → Moved to n w r (r + 1) left right source t t'
-to_diagonal to n w m = record { moved = λ r s e a b c d. m.moved r s e a b c (omega (arith, e.0.lower)); kept = m.kept }
+to_diagonal to n w end m = record { moved = λ r s e a b c d. m.moved r s e a b c (omega (arith, e.0.lower)); kept = m.kept }
 
 -- the places in the target are apart
 apart : (to : Layout) (n w r s r' s' : ℕ)
@@ -34,19 +35,27 @@ apart : (to : Layout) (n w r s r' s' : ℕ)
     → (r ≡ r') × (s ≡ s')
 apart to n w r s r' s' e e' p = place_in_part_apart to n w r s r' s' e.0 e'.0 e.1 e'.1 p
 
--- ---- one entry, where p and q are its places
+-- ---- one entry, where `from` and `at` are its places
 
-pub moved_entry : (to : Layout) (n w : ℕ) {r s p q : ℕ} {source t t' : List Float}
+pub places_inside : (to : Layout) {n w r s from at : ℕ}
+    → w ≤ n
+    → Entry n r s × (s < w)
+    → (from ≡ place_in_part (other to) n w r s) × (at ≡ place_in_part to n w r s)
+    → (from < block_start n w) × (at < block_start n w)
+places_inside to {n = n} {w = w} {r = r} {s = s} full e at =
+    (rw at.0 (place_in_part_lt (other to) n w r s full e.0 e.1), rw at.1 (place_in_part_lt to n w r s full e.0 e.1))
+
+pub moved_entry : (to : Layout) (n w : ℕ) {r s from at : ℕ} {source t t' : List Float}
     → Entry n r s
     → s < w
     → w ≤ n
     → block_start n w ≤ length t
-    → p ≡ packed_place n r s
-    → q ≡ place_in_block w r s
-    → t' ≡ set t (in_layout to p q) (get_or source (in_layout (other to) p q) nan)
+    → from ≡ place_in_part (other to) n w r s
+    → at ≡ place_in_part to n w r s
+    → t' ≡ set t at (get_or source from nan)
     → Moved to n w r (r + 1) s (s + 1) source t t'
-moved_entry to n w {r = r} {s = s} {source = source} {t = t} e h full fit at_p at-q step =
-    rw (step, at_p, at-q)
+moved_entry to n w {r = r} {s = s} {source = source} {t = t} e h full fit at-from at-to step =
+    rw (step, at-from, at-to)
     (Transfers.moved_entry (place_in_part (other to) n w) (place_in_part to n w) (InColumn n w) (apart to n w) source t r s (e, h)
     (omega (arith, place_in_part_lt to n w r s full e h)))
 
@@ -55,44 +64,42 @@ moved_entry to n w {r = r} {s = s} {source = source} {t = t} e h full fit at_p a
 pub record ColumnMoved (to : Layout) (n w s first r : ℕ) (source t t' : List Float) (p q : ℕ) : Type 0 where
   pub size : length t' ≡ length t
   pub low : first ≤ r
-  pub packed : p ≡ packed_place n r s
-  pub blocked : q ≡ place_in_block w r s
+  pub source_place : p ≡ place_in_part (other to) n w r s
+  pub target_place : q ≡ place_in_part to n w r s
   pub moved : Moved to n w first r s (s + 1) source t t'
 
-pub column_none : {to : Layout} {n w s first p q : ℕ} {source t : List Float}
-    → p ≡ packed_place n first s
-    → q ≡ place_in_block w first s
-    → ColumnMoved to n w s first first source t t p q
-column_none at_p at-q = record { size = refl; low = omega arith; packed = at_p; blocked = at-q; moved = moved_no_rows }
+-- the places of a column of either order are as far apart as these
+next_row : (layout : Layout) (n w r s : ℕ) → w ≤ r → place_in_part layout n w (r + 1) s ≡ place_in_part layout n w r s + in_layout layout 1 w
+next_row Packed n w r s h = omega (arith, packed_place_next_row n r s)
+next_row Blocked n w r s h = omega (arith, place_in_block_next_row_under w r s h)
 
 module _ {to : Layout} {n w s first r p q : ℕ} {source t t' : List Float}
-    (sizes : Sizes n w source t)
+    (width : w ≤ n)
+    (held : Held n w source t)
     (under : (s < w) × (w ≤ first) × (r < n))
     (done : ColumnMoved to n w s first r source t t' p q)
   where
-    pub column_inside : (p < block_start n w) × (q < block_start n w)
-    column_inside =
-        let e : Entry n r s = omega arith in (
-          omega (arith, place_in_part_lt Packed n w r s sizes.width e under.0),
-          omega (arith, place_in_part_lt Blocked n w r s sizes.width e under.0),
-        )
-
-    pub column_next :
-        ColumnMoved to n w s first (r + 1) source t (set t' (in_layout to p q) (get_or source (in_layout (other to) p q) nan)) (p + 1) (q + w)
-    column_next =
+    pub column_next : {from_step to_step : ℕ}
+        → (from_step ≡ in_layout (other to) 1 w) × (to_step ≡ in_layout to 1 w)
+        → ColumnMoved to n w s first (r + 1) source t (set t' q (get_or source p nan)) (p + from_step) (q + to_step)
+    column_next steps =
         record {
           size = simp length-set done.size;
           low = omega arith;
-          packed = omega (arith, packed_place_next_row n r s);
-          blocked = omega (arith, place_in_block_next_row_under w r s (omega arith));
+          source_place = omega (arith, next_row (other to) n w r s (omega arith));
+          target_place = omega (arith, next_row to n w r s (omega arith));
           moved =
               join_rows done.moved
-              (moved_entry to n w (omega arith) under.0 sizes.width (omega arith) done.packed done.blocked refl);
+              (moved_entry to n w (omega arith) under.0 width (omega (arith, held.1)) done.source_place done.target_place refl);
         }
+
+pub step_le : (layout : Layout) (w : ℕ) → in_layout layout 1 w ≤ w + 1
+step_le Packed w = omega arith
+step_le Blocked w = omega arith
 
 -- ---- columns of a row below the diagonal block, stored together in blocked order from q on
 
-module _ (n w r s count q : ℕ) (source t t' values : List Float)
+module _ (to : Layout) (blocked : to ≡ Blocked) (n w r s count q : ℕ) (source t t' values : List Float)
     (under : w ≤ r)
     (inside : r < n)
     (columns : s + count ≤ w)
@@ -100,13 +107,14 @@ module _ (n w r s count q : ℕ) (source t t' values : List Float)
     (read : (k : ℕ) → k < count → get_or values k nan ≡ get_or source (packed_place n r (s + k)) nan)
     (stored : Replaced nan q count t values t')
   where
-    pub moved_columns : Moved Blocked n w r (r + 1) s (s + count) source t t'
+    pub moved_columns : Moved to n w r (r + 1) s (s + count) source t t'
     moved_columns =
-        Transfers.moved_columns (place_in_part Packed n w) (place_in_part Blocked n w) (InColumn n w) (apart Blocked n w) source t q count
+        rw blocked
+        (Transfers.moved_columns (place_in_part Packed n w) (place_in_part Blocked n w) (InColumn n w) (apart Blocked n w) source t q count
         (λ k. get_or values k nan) t' stored r s
         (λ k h. let e : Entry n r (s + k) = omega arith in (e, omega arith))
         (λ k h. omega (arith, place_in_block_row w r s, place_in_block_row w r (s + k)))
-        read
+        read)
 
 -- ---- back from the work memory
 

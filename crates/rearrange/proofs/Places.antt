@@ -4,7 +4,7 @@ use mathlib.Core.Path.{◌≡◌}
 use Prim.Native.Nat.{ℕ, ◌+◌, ◌-◌, ◌/◌, ◌≤◌, ◌<◌}
 use native.Mathlib.Nat.{mul-le-mul_left, div-lt_iff_lt-mul, mul_comm}
 use native.Mathlib.Omega.{arith}
-use Rattle.shape.specs.Places.{packed_place, block_of, block_start, width, place_in_block, blocked_place}
+use Rattle.shape.specs.Places.{block_of, block_start, width, blocked_place}
 use Rattle.shape.specs.Layouts.{Entry}
 use Rattle.shape.proofs.Parts.{starts_apart}
 use Rattle.shape.proofs.Columns.{block_start_split, packed_place_at, packed_place_lt}
@@ -15,25 +15,13 @@ use Rattle.shape.proofs.Bounds.{block_start_mono}
 use Rattle.calls.specs.declared.Layout.{Layout}
 use Rattle.calls.specs.declared.Layout.TheVariants.{Packed, Blocked}
 use Rattle.calls.specs.Triangles.{place_of}
-use Rattle.rearrange.specs.Moves.{in_layout, place_in_part}
+use Rattle.rearrange.specs.Moves.{place_in_part}
 
 -- ---- in a block column
 
 pub place_in_part_lt : (layout : Layout) (n w r s : ℕ) → w ≤ n → Entry n r s → s < w → place_in_part layout n w r s < block_start n w
 place_in_part_lt Packed n w r s full e h = packed_place_lt n w r s e h full
 place_in_part_lt Blocked n w r s full e h = place_in_block_lt n w r s full e.inside (omega arith)
-
--- where p and q are the places of entry (r, s)
-pub in_layout_lt : (layout : Layout) {n w r s p q l : ℕ}
-    → w ≤ n
-    → Entry n r s
-    → s < w
-    → p ≡ packed_place n r s
-    → q ≡ place_in_block w r s
-    → block_start n w ≤ l
-    → in_layout layout p q < l
-in_layout_lt layout {n = n} {w = w} {r = r} {s = s} full e h at_p at-q fit =
-    rw (at_p, at-q) (omega (arith, place_in_part_lt layout n w r s full e h))
 
 pub place_in_part_apart : (layout : Layout) (n w r s r' s' : ℕ)
     → Entry n r s

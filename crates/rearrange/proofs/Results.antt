@@ -10,12 +10,14 @@ use lib.Ieee.{Float}
 use Rattle.binary64.specs.Kinds.{zero64}
 use Rattle.shape.specs.Places.{block_work}
 use Rattle.shape.specs.declared.Shape.{Shape}
-use Rattle.calls.specs.declared.Verdict.{Verdict}
 use Rattle.calls.specs.declared.Layout.{Layout}
 use Rattle.calls.specs.declared.Call.TheVariants.{Rearranger}
-use Rattle.calls.specs.Refusals.{accepted}
+use Rattle.calls.specs.declared.outcomes.Refusal.{Refusal}
+use Rattle.calls.specs.Refusals.{success, accepted}
+use Rattle.calls.specs.Outcomes.{verdict_of_refusal}
 use Rattle.calls.specs.Calls.{DoneAs, result_of, clear, rearranger_checks, moved, rearrange}
-use Rattle.calls.proofs.CheckLaws.{RearrangerAccepted, rearranger_accepted, rearranger_success}
+use Rattle.calls.proofs.CheckLaws.{RearrangerAccepted, rearranger_accepted}
+use Rattle.calls.proofs.OutcomeLaws.{not_accepted}
 
 -- the lent part is +0, the rest as it was
 pub cleared : (needed l : ℕ) (work part : List Float)
@@ -28,29 +30,28 @@ cleared needed l work part same fit zeros =
     ap (λ (p : List Float). p ++ drop l work) (zeros ∙ ap (λ (k : ℕ). replicate k zero64) (length-take-le l work fit))
     ∙ ap (λ (k : ℕ). replicate k zero64 ++ drop k work) same
 
-module _ (from to : Layout) (shape : Shape) (m work : List Float) (r : Verdict) (checks : r ≡ rearranger_checks from to shape (length m) (length work)) where
-  passed : accepted r ≡ true → T (accepted (rearranger_checks from to shape (length m) (length work)))
-  passed h = let g : accepted (rearranger_checks from to shape (length m) (length work)) ≡ true = cc in rw g tt
+module _ (from to : Layout) (shape : Shape) (m work : List Float) where
+  -- past the checks
+  module _ (passed : success ≡ rearranger_checks from to shape (length m) (length work)) where
+    accepts : T (accepted (rearranger_checks from to shape (length m) (length work)))
+    accepts = rw (← passed) tt
 
-  pub accepted_sizes : accepted r ≡ true → RearrangerAccepted from to shape (length m) (length work)
-  accepted_sizes h = rearranger_accepted from to shape (length m) (length work) (passed h)
+    pub accepted_sizes : RearrangerAccepted from to shape (length m) (length work)
+    accepted_sizes = rearranger_accepted from to shape (length m) (length work) accepts
 
-  pub refused_done : accepted r ≡ false → DoneAs (rearrange from to shape m work) (result_of (Rearranger from to) shape r) m work
+    pub accepted_done : {m' work' : List Float}
+        → m' ≡ moved from to shape.order shape.block m
+        → work' ≡ clear (block_work shape.order shape.block) work
+        → DoneAs (rearrange from to shape m work) (result_of (Rearranger from to) shape success) m' work'
+    unfolding rearrange
+    accepted_done matrix cleared =
+        let g : accepted (rearranger_checks from to shape (length m) (length work)) ≡ true = rw (← passed) refl in
+        record { result = rw g refl; matrix = rw g matrix; work = rw g cleared }
+
+  pub refused_done : (r : Refusal)
+      → verdict_of_refusal r ≡ rearranger_checks from to shape (length m) (length work)
+      → DoneAs (rearrange from to shape m work) (result_of (Rearranger from to) shape (verdict_of_refusal r)) m work
   unfolding rearrange
-  refused_done h =
-      let g : accepted (rearranger_checks from to shape (length m) (length work)) ≡ false = cc in
-      record { result = rw g (ap (result_of (Rearranger from to) shape) checks); matrix = rw g refl; work = rw g refl }
-
-  pub accepted_done : {m' work' : List Float}
-      → accepted r ≡ true
-      → m' ≡ moved from to shape.order shape.block m
-      → work' ≡ clear (block_work shape.order shape.block) work
-      → DoneAs (rearrange from to shape m work) (result_of (Rearranger from to) shape r) m' work'
-  unfolding rearrange
-  accepted_done h matrix cleared =
-      let g : accepted (rearranger_checks from to shape (length m) (length work)) ≡ true = cc in
-      record {
-        result = rw g (ap (result_of (Rearranger from to) shape) (checks ∙ rearranger_success from to shape (length m) (length work) (passed h)));
-        matrix = rw g matrix;
-        work = rw g cleared;
-      }
+  refused_done r refused =
+      let g : accepted (rearranger_checks from to shape (length m) (length work)) ≡ false = rw (← refused) (not_accepted r) in
+      record { result = rw g (ap (result_of (Rearranger from to) shape) refused); matrix = rw g refl; work = rw g refl }

@@ -3,7 +3,6 @@
 -- column is entry (r, s), s < w, of a triangle of order n.
 use Rattle.std.specs.Prelude.{ℕ, ◌≤◌, ◌<◌, ◌≡◌, List, length, get_or, Float}
 use Rattle.std.specs.Float.{nan}
-use Rattle.shape.specs.Bounds.{max_order}
 use Rattle.shape.specs.Places.{packed_place, block_start, place_in_block}
 use Rattle.shape.specs.Layouts.{Entry}
 use Rattle.calls.specs.declared.Layout.{Layout}
@@ -28,11 +27,8 @@ abbrev pub InColumn : ℕ → ℕ → ℕ → ℕ → Type 0
 InColumn n w r s = Entry n r s × (s < w)
 
 -- both memories hold the block column
-pub record Sizes (n w : ℕ) (source target : List Float) : Type 0 where
-  pub order : n ≤ max_order
-  pub width : w ≤ n
-  pub source_holds : block_start n w ≤ length source
-  pub target_holds : block_start n w ≤ length target
+abbrev pub Held : ℕ → ℕ → List Float → List Float → Type 0
+Held n w source target = (block_start n w ≤ length source) × (block_start n w ≤ length target)
 
 -- the entries of rows first .. end − 1 and columns left .. right − 1 were moved
 abbrev pub Moved : Layout → ℕ → ℕ → ℕ → ℕ → ℕ → ℕ → List Float → List Float → List Float → Type 0

@@ -4,11 +4,13 @@
 #![tactic(auto)]
 
 use input::read_input;
-use job_format::{MAX_JOB, Rewritten, rewrite};
+use job_format::{Fault, MAX_JOB, rewrite};
 use output::{tell, write_output};
 use std::process::ExitCode;
 
-fn tell_fault(rt: &impl Eprint, code: usize, place: usize) -> ExitCode {
+fn tell_fault(rt: &impl Eprint, fault: Fault) -> ExitCode {
+    let code = fault.code();
+    let place = fault.place();
     tell(rt, format_args!("rewrite_job: code {code}, place {place}"))
 }
 
@@ -20,13 +22,11 @@ fn main(rt: HostRuntime) -> ExitCode {
     // One byte more than the longest job has, so that an extra byte is seen.
     let mut file = [0u8; MAX_JOB + 1];
     let mut out = [0u8; MAX_JOB];
-    let input = read_input(&mut rt.stdin(), &mut file);
-    let size = input.count;
-    if input.failed {
+    let Ok(size) = read_input(&mut rt.stdin(), &mut file) else {
         return tell(&rt, "rewrite_job: the job could not be read");
-    }
+    };
     match rewrite(&file[..size], &mut out) {
-        Rewritten::Fault(fault) => tell_fault(&rt, fault.code, fault.place),
-        Rewritten::Job(end) => write_job(&rt, &out[..end]),
+        Ok(end) => write_job(&rt, &out[..end]),
+        Err(fault) => tell_fault(&rt, fault),
     }
 }

@@ -12,11 +12,9 @@ fn main(rt: HostRuntime) -> ExitCode {
     // One byte more than the longest job has, so that an extra byte is seen.
     let mut file = [0u8; MAX_JOB + 1];
     let mut out = [0u8; LISTING];
-    let input = read_input(&mut rt.stdin(), &mut file);
-    let size = input.count;
-    if input.failed {
+    let Ok(size) = read_input(&mut rt.stdin(), &mut file) else {
         return tell(&rt, "run_job: the job could not be read");
-    }
+    };
     let end = job::run(&file[..size], &mut out);
     write_output(
         &rt,

@@ -6,19 +6,14 @@ ghost use Rattle.shape.specs.Bounds.{max_order, max_block, max_rhs};
 ghost use Rattle.shape.specs.Places.{triangle, packed_place, block_of, block_start, width, place_in_block, blocked_place, block_work, rfp_rows, rfp_columns, rfp_row, rfp_column, rfp_place};
 ghost use Rattle.shape.specs.Layouts.{Entry};
 
-// Any numbers: the calls examine them. What a state's number means is said in crate calls.
+// Any numbers: C hands it in, and the calls examine them, so what a method needs of them is a clause and no part of the type. What a state's number means is
+// said in crate calls.
 #[repr(C)]
 #[derive(Clone, Copy)]
 pub struct Shape {
     pub order: usize,
     pub block: usize,
     pub state: usize,
-}
-
-pub fn least(a: usize, b: usize) -> usize
-    ensures { result ≡ min a b }
-{
-    if a < b { a } else { b }
 }
 
 impl Shape {
@@ -97,7 +92,7 @@ impl Shape {
         requires { c ≤ self.order }
         ensures { result ≡ width self.order self.block c }
     {
-        least(self.block, self.order - c)
+        self.block.min(self.order - c)
     }
 
     // The place of column s of row r in a block column of width w, from the block column's start.
@@ -130,7 +125,7 @@ impl Shape {
         requires { self.order ≤ max_order }
         ensures { result ≡ block_work self.order self.block }
     {
-        self.order * least(self.order, self.block)
+        self.order * self.order.min(self.block)
     }
 
     // The rows and columns of the array that form 0 of rectangular full packed order is.
@@ -174,7 +169,8 @@ impl Shape {
         }
     }
 
-    // The place of entry (i, j) in rectangular full packed order; every form but 0 is taken as the transpose.
+    // The place of entry (i, j) in rectangular full packed order; every form but 0 is taken as the transpose. A form is a number, since `rfp_bijection` is of
+    // every number.
     pub fn rfp_place(self, form: usize, i: usize, j: usize) -> usize
         requires order_le_max_order { self.order ≤ max_order }
         requires entry { Entry self.order i j }

@@ -11,8 +11,9 @@ use Rattle.calls.specs.Arithmetic.{minus_products}
 use Rattle.calls.proofs.Columns.{products_same}
 use Rattle.kernels.specs.Kernels.{Scattered, rising_from}
 use Rattle.kernels.proofs.Products.{rising_prefix}
-use Rattle.solve.specs.declared.blocked.Trailing.{Trailing}
-use Rattle.solve.specs.Substitution.{block_entries, RowsApart, RowsSubtracted}
+use Rattle.solve.specs.declared.block_column.BlockColumn.{BlockColumn}
+use Rattle.solve.specs.Parts.{block_entries}
+use Rattle.solve.specs.Substitution.{RowsApart, RowsSubtracted}
 use Rattle.solve.proofs.BlockPlaces.{row_place, room, row_entries, room_under, next_under}
 
 -- ---- numbers as i + s · q, i below q
@@ -56,7 +57,7 @@ apart_inside q s t few short = omega (arith, apart_le q s 8 few)
 
 -- ---- where rows begin
 
-module _ (block : Trailing) where
+module _ (block : BlockColumn) where
   abbrev width : ℕ
   width = block.skip + block.w
 
@@ -66,9 +67,9 @@ module _ (block : Trailing) where
       let next : r + k + 1 ≡ r + suc k = omega arith in
       sym (ap (row_place block) next) ∙ next_under block (r + k) block.skip (omega arith) ∙ omega (arith, place_apart r k low, suc-mul k width)
 
-  pub step_le : (q : ℕ) → 0 < block.w → block.w + q < block.h → q * width ≤ room block
-  step_le q pos fits =
-      omega (arith, place_apart block.w q (omega arith), room_under block (block.w + q) pos (omega arith) (omega arith) (omega arith))
+  pub step_le : (q : ℕ) → block.w + q < block.h → q * width ≤ room block
+  step_le q fits =
+      omega (arith, place_apart block.w q (omega arith), room_under block (block.w + q) (omega arith) (omega arith))
 
   pub place_apart8 :
       (q t s from : ℕ) → from ≡ row_place block (block.w + t) → from + s * (q * width) ≡ row_place block (block.w + t + s * q)
@@ -76,12 +77,12 @@ module _ (block : Trailing) where
 
 -- ---- eight rows
 
-module _ (block : Trailing) (q t : ℕ) (part v : List Float) where
+module _ (block : BlockColumn) (q t : ℕ) (v : List Float) where
   pub apart8_done :
       (loaded reduced v' : List Float) (places rows : ℕ → ℕ) → block.w ≤ length v → ((s : ℕ) → s < 8 → rows s ≡ block.w + t + s * q) →
       ((s : ℕ) → s < 8 → get_or loaded s nan ≡ get_or v (rows s + 0) nan) → ((s : ℕ) → s < 8 → places s ≡ row_place block (block.w + t + s * q)) →
-      ((s : ℕ) → s < 8 → get_or reduced s nan ≡ rising_from part (places s) (take block.w v) (length (take block.w v)) (get_or loaded s nan)) →
-      Scattered 8 (λ s. rows s + 0) (λ s. get_or reduced s nan) v v' → RowsApart (block_entries block part) block.w q t v v'
+      ((s : ℕ) → s < 8 → get_or reduced s nan ≡ rising_from block.part.now (places s) (take block.w v) (length (take block.w v)) (get_or loaded s nan)) →
+      Scattered 8 (λ s. rows s + 0) (λ s. get_or reduced s nan) v v' → RowsApart (block_entries block) block.w q t v v'
   apart8_done loaded reduced v' places rows fits placed load begins reduce scattered =
       record {
         size = scattered.size;
@@ -89,9 +90,9 @@ module _ (block : Trailing) (q t : ℕ) (part v : List Float) where
             ap (λ p. get_or v' p nan) (sym (position s few))
             ∙ scattered.inside s few
             ∙ reduce s few
-            ∙ rising_prefix (λ k. block_entries block part (block.w + t + s * q) k) part v (places s) block.w (get_or loaded s nan) fits
-            (λ k p. row_entries block (block.w + t + s * q) (places s) k part (begins s few))
-            ∙ ap (minus_products (λ k. block_entries block part (block.w + t + s * q) k) (λ k. get_or v k nan) block.w)
+            ∙ rising_prefix (λ k. block_entries block (block.w + t + s * q) k) block.part.now v (places s) block.w (get_or loaded s nan) fits
+            (λ k p. row_entries block (block.w + t + s * q) (places s) k (begins s few))
+            ∙ ap (minus_products (λ k. block_entries block (block.w + t + s * q) k) (λ k. get_or v k nan) block.w)
             (load s few ∙ ap (λ p. get_or v p nan) (position s few));
         outside = λ p none. scattered.outside p (λ s few e. none s few (e ∙ position s few));
       }

@@ -11,38 +11,34 @@ use Rattle.calls.specs.Arithmetic.{minus_products}
 use Rattle.kernels.specs.Kernels.{Replaced, MultipleSubtracted, rising_from}
 use Rattle.kernels.proofs.Parts.{get_d_part, length_part, part_replaced}
 use Rattle.kernels.proofs.Products.{minus_next, rising_prefix}
-use Rattle.solve.specs.declared.blocked.Trailing.{Trailing}
-use Rattle.solve.specs.Substitution.{BlockColumn, block_entries, TriangleForward, RowsSubtracted, RowTaken, ColumnsSubtracted}
+use Rattle.solve.specs.declared.block_column.BlockColumn.{BlockColumn}
+use Rattle.solve.specs.Parts.{block_entries}
+use Rattle.solve.specs.Substitution.{TriangleForward, RowsSubtracted, RowTaken, ColumnsSubtracted}
 use Rattle.solve.proofs.BlockPlaces.{row_place, row_entries, row_entries_from, before_inside}
 use Rattle.solve.proofs.Rows.{replaced_of_filled, rows_next}
 use Rattle.solve.proofs.Triangles.{forward_next, TakenFrom, taken_next}
 
--- other rows of a right-hand side beside it
-pub rows_beside : (block : Trailing) (part v v' : List Float) → BlockColumn block part v → length v' ≡ length v → BlockColumn block part v'
-rows_beside block part v v' column e =
-    record { order = column.order; columns = column.columns; fits = column.fits; values = column.values; rows = e ∙ column.rows }
-
 -- ---- forward
 
-module _ (block : Trailing) (part v₀ v : List Float) (full : block.w ≤ block.h) (size : length v₀ ≡ block.h) where
+module _ (block : BlockColumn) (v₀ v : List Float) (size : length v₀ ≡ block.h) where
   abbrev coefficient : ℕ → ℕ → Float
-  coefficient = block_entries block part
+  coefficient = block_entries block
 
   pub triangle_row :
-      (r at : ℕ) (value : Float) → r < block.w → at ≡ row_place block r → value ≡ rising_from part at (take r v) (length (take r v)) (get_or v r nan) →
-      TriangleForward coefficient r v₀ v → TriangleForward coefficient (r + 1) v₀ (set v r (div binary64 value (get_or part (at + r) nan)))
+      (r at : ℕ) (value : Float) → r < block.w → at ≡ row_place block r → value ≡ rising_from block.part.now at (take r v) (length (take r v)) (get_or v r nan) →
+      TriangleForward coefficient r v₀ v → TriangleForward coefficient (r + 1) v₀ (set v r (div binary64 value (get_or block.part.now (at + r) nan)))
   triangle_row r at value less place e s =
-      rw (row_entries block r at r part place)
+      rw (row_entries block r at r place)
       (forward_next coefficient r v₀ v value (omega arith) s
-      (e ∙ rising_prefix (λ k. coefficient r k) part v at r (get_or v r nan) (omega (arith, s.size)) (λ k p. row_entries block r at k part place)))
+      (e ∙ rising_prefix (λ k. coefficient r k) block.part.now v at r (get_or v r nan) (omega (arith, s.size)) (λ k p. row_entries block r at k place)))
 
   pub under_row :
       (from r at : ℕ) (value : Float) → block.w ≤ from → from ≤ r → r < block.h → at ≡ row_place block r →
-      value ≡ rising_from part at (take block.w v) (length (take block.w v)) (get_or v r nan) →
+      value ≡ rising_from block.part.now at (take block.w v) (length (take block.w v)) (get_or v r nan) →
       RowsSubtracted coefficient block.w from r v₀ v → RowsSubtracted coefficient block.w from (r + 1) v₀ (set v r value)
   under_row from r at value low le less place e s =
       rows_next coefficient block.w from r v₀ v value low le (omega arith) s
-      (e ∙ rising_prefix (λ k. coefficient r k) part v at block.w (get_or v r nan) (omega (arith, s.size)) (λ k p. row_entries block r at k part place))
+      (e ∙ rising_prefix (λ k. coefficient r k) block.part.now v at block.w (get_or v r nan) (omega (arith, s.size)) (λ k p. row_entries block r at k place))
 
 -- ---- backward
 
@@ -61,31 +57,30 @@ row_taken coefficient q from count to at end part v u x rows fits values same su
 
 -- a row below the triangle
 pub row_under :
-    (block : Trailing) (r from at : ℕ) (part v u : List Float) (x : Float) → from ≤ block.w → block.w ≤ length v →
+    (block : BlockColumn) (r from at : ℕ) (v u : List Float) (x : Float) → from ≤ block.w → block.w ≤ length v →
     at ≡ place_in_block (block.skip + block.w) (block.skip + r) (block.skip + from) →
-    MultipleSubtracted (take (block.w - from) (drop from v)) (take (at + (block.w - from) - at) (drop at part)) x u →
-    RowTaken (block_entries block part) r x from block.w v (take from v ++ (u ++ drop (block.w - from) (drop from v)))
-row_under block r from at part v u x le fits place subtracted =
-    row_taken (block_entries block part) r from (block.w - from) block.w at (at + (block.w - from)) part v u x (omega arith) fits refl
-    (λ i p. row_entries_from block r from at i part place) subtracted
+    MultipleSubtracted (take (block.w - from) (drop from v)) (take (at + (block.w - from) - at) (drop at block.part.now)) x u →
+    RowTaken (block_entries block) r x from block.w v (take from v ++ (u ++ drop (block.w - from) (drop from v)))
+row_under block r from at v u x le fits place subtracted =
+    row_taken (block_entries block) r from (block.w - from) block.w at (at + (block.w - from)) block.part.now v u x (omega arith) fits refl
+    (λ i p. row_entries_from block r from at i place) subtracted
 
 -- a row of the triangle
 pub row_inside_up :
-    (block : Trailing) (r at : ℕ) (part v₀ v u : List Float) (x : Float) → block.w ≤ block.h → length v₀ ≡ block.h → 0 < r → r ≤ block.w →
-    at ≡ row_place block r → (let up = at - (block.skip + r) in
-    x ≡ div binary64 (get_or v (r - 1) nan) (get_or part (up + (r - 1)) nan) → TakenFrom (block_entries block part) block.w r v₀ v →
-    MultipleSubtracted (take (r - 1) (set v (r - 1) x)) (take (up + (r - 1) - up) (drop up part)) x u →
-    (up ≡ row_place block (r - 1)) × TakenFrom (block_entries block part) block.w (r - 1) v₀ (u ++ drop (r - 1) (set v (r - 1) x)))
-row_inside_up block r at part v₀ v u x full size pos le place e s subtracted =
+    (block : BlockColumn) (r at up : ℕ) (v₀ v u : List Float) (x : Float) → length v₀ ≡ block.h → 0 < r → r ≤ block.w →
+    at ≡ row_place block r → up ≡ at - (block.skip + r) →
+    x ≡ div binary64 (get_or v (r - 1) nan) (get_or block.part.now (up + (r - 1)) nan) → TakenFrom (block_entries block) block.w r v₀ v →
+    MultipleSubtracted (take (r - 1) (set v (r - 1) x)) (take (up + (r - 1) - up) (drop up block.part.now)) x u →
+    (up ≡ row_place block (r - 1)) × TakenFrom (block_entries block) block.w (r - 1) v₀ (u ++ drop (r - 1) (set v (r - 1) x))
+row_inside_up block r at up v₀ v u x size pos le place back e s subtracted =
     let q : ℕ = r - 1 in
-    let back : q + 1 ≡ r = omega arith in
-    let up : ℕ = at - (block.skip + r) in
-    let start : up ≡ row_place block q = (before_inside block r at pos le full place).1 in (
+    let next : q + 1 ≡ r = omega arith in
+    let start : up ≡ row_place block q = back ∙ (before_inside block r at pos le place).1 in (
       start,
-      taken_next (block_entries block part) block.w q v₀ v (u ++ drop q (set v q x)) x (omega arith) (omega arith)
-          (e ∙ ap (div binary64 (get_or v q nan)) (row_entries block q up q part start)) (rw back s)
-          (row_taken (block_entries block part) q 0 q q up (up + q) part (set v q x) u x (omega arith)
-          (omega (arith, s.size, length-set v q x)) refl (λ i p. row_entries block q up i part start ∙ ap (block_entries block part q) (sym (zero-add i))) subtracted),
+      taken_next (block_entries block) block.w q v₀ v (u ++ drop q (set v q x)) x (omega arith) (omega arith)
+          (e ∙ ap (div binary64 (get_or v q nan)) (row_entries block q up q start)) (rw next s)
+          (row_taken (block_entries block) q 0 q q up (up + q) block.part.now (set v q x) u x (omega arith)
+          (omega (arith, s.size, length-set v q x)) refl (λ i p. row_entries block q up i start ∙ ap (block_entries block q) (sym (zero-add i))) subtracted),
     )
 
 -- rows s to s + 15 less the products of the last k rows, as sixteen values
@@ -94,15 +89,15 @@ Less16 coefficient h k s v values =
     (i : ℕ) → i < 16 →
     get_or values i nan ≡ minus_products (λ q. coefficient (h - 1 - q) (s + i)) (λ q. get_or v (h - 1 - q) nan) k (get_or v (s + i) nan)
 
-module _ (block : Trailing) (h k s : ℕ) (part v values : List Float) (so : Less16 (block_entries block part) h k s v values) where
+module _ (block : BlockColumn) (h k s : ℕ) (v values : List Float) (so : Less16 (block_entries block) h k s v values) where
   pub less16_next :
       (at : ℕ) (next : List Float) → at ≡ place_in_block (block.skip + block.w) (block.skip + (h - 1 - k)) (block.skip + s) →
-      ((i : ℕ) → i < 16 → get_or next i nan ≡ sub binary64 (get_or values i nan) (mul binary64 (get_or part (at + i) nan) (get_or v (h - 1 - k) nan))) →
-      Less16 (block_entries block part) h (k + 1) s v next
+      ((i : ℕ) → i < 16 → get_or next i nan ≡ sub binary64 (get_or values i nan) (mul binary64 (get_or block.part.now (at + i) nan) (get_or v (h - 1 - k) nan))) →
+      Less16 (block_entries block) h (k + 1) s v next
   less16_next at next place step i p =
       step i p
-      ∙ ap₂ (λ t a. sub binary64 t (mul binary64 a (get_or v (h - 1 - k) nan))) (so i p) (row_entries_from block (h - 1 - k) s at i part place)
-      ∙ sym (minus_next (λ q. block_entries block part (h - 1 - q) (s + i)) (λ q. get_or v (h - 1 - q) nan) k (get_or v (s + i) nan))
+      ∙ ap₂ (λ t a. sub binary64 t (mul binary64 a (get_or v (h - 1 - k) nan))) (so i p) (row_entries_from block (h - 1 - k) s at i place)
+      ∙ sym (minus_next (λ q. block_entries block (h - 1 - q) (s + i)) (λ q. get_or v (h - 1 - q) nan) k (get_or v (s + i) nan))
 
-  pub columns16_done : (v' : List Float) → Replaced nan s 16 v values v' → ColumnsSubtracted (block_entries block part) h k s (s + 16) v v'
+  pub columns16_done : (v' : List Float) → Replaced nan s 16 v values v' → ColumnsSubtracted (block_entries block) h k s (s + 16) v v'
   columns16_done v' whole = replaced_of_filled _ (λ i. get_or values i nan) s 16 (s + 16) v v' refl whole so

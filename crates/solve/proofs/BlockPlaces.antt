@@ -3,15 +3,14 @@ use Prim.Native.Nat.{ℕ, ◌+◌, ◌-◌, ◌≤◌, ◌<◌}
 use native.Mathlib.Nat.{add_assoc}
 use native.Mathlib.Omega.{arith}
 use mathlib.Core.Path.{◌≡◌, ap, ◌∙◌}
-use mathlib.Core.List.{List}
 use lib.ListN.{get_or}
-use lib.Ieee.{Float, nan}
+use lib.Ieee.{nan}
 use Rattle.shape.specs.Bounds.{max_order}
 use Rattle.shape.specs.Places.{triangle, block_start, place_in_block}
 use Rattle.shape.proofs.Bounds.{block_start_le, triangle_le}
 use Rattle.shape.proofs.Rows.{place_in_block_row, place_in_block_lt, place_in_block_next_row_inside, place_in_block_next_row_under}
-use Rattle.solve.specs.declared.blocked.Trailing.{Trailing}
-use Rattle.solve.specs.Substitution.{block_entries}
+use Rattle.solve.specs.declared.block_column.BlockColumn.{BlockColumn}
+use Rattle.solve.specs.Parts.{block_entries}
 
 -- a block column begins in the matrix
 pub start_room : (n c at : ℕ) → n ≤ max_order → c ≤ n → at ≡ block_start n c → (at ≤ triangle n) × (triangle n ≤ 8002000)
@@ -20,9 +19,9 @@ start_room n c at order le place = (omega (arith, block_start_le n c le), triang
 column_place : (w r s i : ℕ) → place_in_block w r s + i ≡ place_in_block w r (s + i)
 column_place w r s i = omega (arith, place_in_block_row w r s, place_in_block_row w r (s + i))
 
-module _ (block : Trailing) where
+module _ (block : BlockColumn) where
   -- column s of row r, in the whole block column's numbers
-  abbrev place : ℕ → ℕ → ℕ
+  abbrev pub place : ℕ → ℕ → ℕ
   place r s = place_in_block (block.skip + block.w) (block.skip + r) s
 
   -- where row r begins
@@ -35,20 +34,20 @@ module _ (block : Trailing) where
 
   -- ---- the entries of a row
 
-  pub row_entries : (r at i : ℕ) (part : List Float) → at ≡ row_place r → get_or part (at + i) nan ≡ block_entries block part r i
-  row_entries r at i part e =
-      ap (λ p. get_or part p nan) (ap (λ a. a + i) e ∙ column_place (block.skip + block.w) (block.skip + r) block.skip i)
+  pub row_entries : (r at i : ℕ) → at ≡ row_place r → get_or block.part.now (at + i) nan ≡ block_entries block r i
+  row_entries r at i e =
+      ap (λ p. get_or block.part.now p nan) (ap (λ a. a + i) e ∙ column_place (block.skip + block.w) (block.skip + r) block.skip i)
 
   pub row_entries_from :
-      (r s at i : ℕ) (part : List Float) → at ≡ place r (block.skip + s) → get_or part (at + i) nan ≡ block_entries block part r (s + i)
-  row_entries_from r s at i part e =
-      ap (λ p. get_or part p nan)
+      (r s at i : ℕ) → at ≡ place r (block.skip + s) → get_or block.part.now (at + i) nan ≡ block_entries block r (s + i)
+  row_entries_from r s at i e =
+      ap (λ p. get_or block.part.now p nan)
       (ap (λ a. a + i) e ∙ column_place (block.skip + block.w) (block.skip + r) (block.skip + s) i ∙ ap (place r) (add_assoc block.skip s i))
 
   -- ---- room
 
-  pub room_inside : (r : ℕ) → block.w ≤ block.h → r < block.w → row_place r + r < room
-  room_inside r full less =
+  pub room_inside : (r : ℕ) → r < block.w → row_place r + r < room
+  room_inside r less =
       let row : ℕ = block.skip + r in
       omega (
         arith,
@@ -56,8 +55,8 @@ module _ (block : Trailing) where
         place_in_block_lt (block.skip + block.h) (block.skip + block.w) row row (omega arith) (omega arith) (omega arith),
       )
 
-  pub room_under : (r : ℕ) → 0 < block.w → block.w ≤ block.h → block.w ≤ r → r < block.h → row_place r + block.w ≤ room
-  room_under r pos full low less =
+  pub room_under : (r : ℕ) → block.w ≤ r → r < block.h → row_place r + block.w ≤ room
+  room_under r low less =
       let last : ℕ = block.skip + (block.w - 1) in
       omega (
         arith,
@@ -67,16 +66,16 @@ module _ (block : Trailing) where
 
   -- the m entries from column s on
   pub room_part :
-      (r s m : ℕ) → 0 < block.w → block.w ≤ block.h → block.w ≤ r → r < block.h → s + m ≤ block.w → place r (block.skip + s) + m ≤ room
-  room_part r s m pos full low less wide =
-      omega (arith, column_place (block.skip + block.w) (block.skip + r) block.skip s, room_under r pos full low less)
+      (r s m : ℕ) → block.w ≤ r → r < block.h → s + m ≤ block.w → place r (block.skip + s) + m ≤ room
+  room_part r s m low less wide =
+      omega (arith, column_place (block.skip + block.w) (block.skip + r) block.skip s, room_under r low less)
 
-  pub values_le : block.w ≤ block.h → block.skip + block.h ≤ max_order → room ≤ 8002000
-  values_le full order =
+  pub values_le : room ≤ 8002000
+  values_le =
       omega (
         arith,
         block_start_le (block.skip + block.h) (block.skip + block.w) (omega arith),
-        triangle_le (block.skip + block.h) order,
+        triangle_le (block.skip + block.h) block.order,
       )
 
   -- ---- the next row, and the row before
@@ -93,18 +92,17 @@ module _ (block : Trailing) where
 
   -- of the triangle
   pub before_inside :
-      (r at : ℕ) → 0 < r → r ≤ block.w → block.w ≤ block.h → at ≡ row_place r →
+      (r at : ℕ) → 0 < r → r ≤ block.w → at ≡ row_place r →
       (block.skip + r ≤ at) × (at - (block.skip + r) ≡ row_place (r - 1)) × (at - (block.skip + r) + (r - 1) < room)
-  before_inside r at pos le full here =
+  before_inside r at pos le here =
       let back : r - 1 + 1 ≡ r = omega arith in
       let next : row_place r ≡ row_place (r - 1) + (block.skip + r) = rw back at (next_inside (r - 1) (omega arith)) in
-      (omega arith, omega arith, omega (arith, room_inside (r - 1) full (omega arith)))
+      (omega arith, omega arith, omega (arith, room_inside (r - 1) (omega arith)))
 
   -- below it
   pub next_up :
-      (h k s at : ℕ) → block.w + k < h → at ≡ place (h - k) s →
-      (block.skip + block.w ≤ at) × (at - (block.skip + block.w) ≡ place (h - 1 - k) s)
-  next_up h k s at under here =
-      let back : h - 1 - k + 1 ≡ h - k = omega arith in
-      let next : place (h - k) s ≡ place (h - 1 - k) s + (block.skip + block.w) = rw back at (next_under (h - 1 - k) s (omega arith)) in
+      (r s at : ℕ) → block.w < r → at ≡ place r s → (block.skip + block.w ≤ at) × (at - (block.skip + block.w) ≡ place (r - 1) s)
+  next_up r s at under here =
+      let back : r - 1 + 1 ≡ r = omega arith in
+      let next : place r s ≡ place (r - 1) s + (block.skip + block.w) = rw back at (next_under (r - 1) s (omega arith)) in
       (omega arith, omega arith)

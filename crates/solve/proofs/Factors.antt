@@ -18,8 +18,9 @@ use Rattle.calls.specs.Triangles.{entry, height, load, place_from, load_from}
 use Rattle.calls.proofs.Triangles.{load_alike, entry_load, load_one}
 use Rattle.calls.proofs.Trailing.{entry_from, trailing_entry}
 use Rattle.kernels.proofs.Parts.{get_d_part}
-use Rattle.solve.specs.declared.blocked.Trailing.{Trailing}
-use Rattle.solve.specs.Substitution.{entries_at, block_entries}
+use Rattle.solve.specs.declared.block_column.BlockColumn.{BlockColumn}
+use Rattle.solve.specs.Parts.{block_entries}
+use Rattle.solve.specs.Substitution.{entries_at}
 use Rattle.solve.proofs.Substitution.{Agrees, lent}
 
 -- an entry at place p of the part
@@ -65,13 +66,13 @@ module _ (n c : ℕ) (matrix : List Float) where
 
   -- what is left of it, from column k on
   pub block_agrees_from :
-      (b k m : ℕ) (block : Trailing) → block_of b c ≡ c → c + block.skip ≡ k → block.skip + block.w ≡ width n b c →
-      block_start (n - c) (width n b c) ≤ m →
-      Agrees n k block.w (load (blocked_place n b) (height n) n matrix) (block_entries block (take m (drop (block_start n c) matrix)))
-  block_agrees_from b k m block first here wide enough r s low le h =
+      (b k m : ℕ) (block : BlockColumn) → block_of b c ≡ c → c + block.skip ≡ k → block.skip + block.w ≡ width n b c →
+      block.part.now ≡ take m (drop (block_start n c) matrix) → block_start (n - c) (width n b c) ≤ m →
+      Agrees n k block.w (load (blocked_place n b) (height n) n matrix) (block_entries block)
+  block_agrees_from b k m block first here wide part enough r s low le h =
       let row : k + r ≡ c + (block.skip + r) = omega arith in
       let column : k + s ≡ c + (block.skip + s) = omega arith in
-      rw (row, column, wide) (block_agrees b m first enough (block.skip + r) (block.skip + s) (omega arith) (omega arith) (omega arith))
+      rw (part, row, column, wide) (block_agrees b m first enough (block.skip + r) (block.skip + s) (omega arith) (omega arith) (omega arith))
 
   -- blocked: the columns from c on, a block column's first
   pub run_agrees :

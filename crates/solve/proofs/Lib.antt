@@ -3,7 +3,7 @@ pub mod Substitution
 pub mod Rows
 pub mod Triangles
 pub mod Factors
-pub mod Packed
+pub mod PackedTurns
 pub mod BlockPlaces
 pub mod BlockColumns
 pub mod Apart

@@ -1,16 +1,16 @@
 -- The turns of the substitutions on a run of block columns. Assumes nothing.
-use Prim.Native.Nat.{ℕ, ◌+◌, ◌-◌, ◌*◌, ◌≤◌, ◌<◌}
+use Prim.Native.Nat.{ℕ, ◌+◌, ◌-◌, ◌*◌, ◌≤◌, ◌<◌, min}
 use native.Mathlib.Nat.{zero-add}
 use native.Mathlib.Omega.{arith}
 use native.Mathlib.Decide.{dec_lt}
-use mathlib.Core.Path.{◌≡◌, refl, sym, ap, ap₂, ◌∙◌}
+use mathlib.Core.Path.{◌≡◌, refl, sym, ap, ap₂, ◌∙◌, subst}
 use mathlib.Core.Logic.{inl, inr}
 use mathlib.Core.List.{List, ◌++◌}
-use lib.ListN.{length, get_or, take, drop, length-take}
+use lib.ListN.{length, get_or, take, drop}
+use Rattle.std.proofs.lemmas.List.{take_rest}
 use lib.Seq.{get_or-take}
 use lib.Ieee.{Float, nan, binary64, div}
-use Rattle.shape.specs.Bounds.{max_order}
-use Rattle.shape.specs.Places.{triangle, block_of, block_start, width, blocked_place}
+use Rattle.shape.specs.Places.{block_of, block_start, width, blocked_place}
 use Rattle.shape.proofs.Blocks.{block_of_le, block_of_lt, block_of_block, width_le, width_le_block}
 use Rattle.shape.proofs.Runs.{block_of_run}
 use Rattle.shape.proofs.Columns.{triangle_rest}
@@ -20,48 +20,52 @@ use Rattle.calls.proofs.Triangles.{entry_load}
 use Rattle.calls.proofs.Columns.{products_same}
 use Rattle.calls.proofs.Entries.{length_forward, forward_entry_lem, length_backward, backward_entry_lem}
 use Rattle.kernels.specs.declared.tiles.Run.{Run}
-use Rattle.kernels.specs.Kernels.{Replaced, RowsBelow, TileIs, tile_at, run_at, lane_at}
-use Rattle.kernels.proofs.Parts.{length_part, prefix_replaced}
-use Rattle.solve.specs.Substitution.{entries_at, BlockRows, BlockRun, RunIs, TriangleForward, RowsSubtracted, ForwardDone, ProductsSubtracted, BackwardDone}
-use Rattle.solve.proofs.BlockTurns.{Whole}
+use Rattle.kernels.specs.Kernels.{Filled, Replaced, RowsBelow, TileIs, tile_at, run_at, lane_at}
+use Rattle.kernels.proofs.Parts.{prefix_replaced}
+use Rattle.solve.specs.declared.blocked.Blocked.{Blocked}
+use Rattle.solve.specs.declared.runs.ColumnRun.{ColumnRun}
+use Rattle.solve.specs.Parts.{blocked_entries, blocked_factor, EndsBlock, RunAt, RunIs}
+use Rattle.solve.specs.Substitution.{entries_at, TriangleForward, RowsSubtracted, ForwardDone, ProductsSubtracted, BackwardDone}
 use Rattle.solve.proofs.Factors.{run_agrees}
 use Rattle.solve.proofs.Rows.{replaced_of_filled}
-use Rattle.solve.proofs.Substitution.{Agrees, ForwardTo, BackwardTo, lent, returned, length_lent, forward_lent, backward_lent}
+use Rattle.solve.proofs.Substitution.{Agrees, ForwardTo, BackwardTo, lent, returned, forward_lent, backward_lent}
 
 -- ---- a run's columns
 
--- other rows of a right-hand side beside it
-pub run_beside : (h b w : ℕ) (part v v' : List Float) → BlockRun h b w part v → length v' ≡ length v → BlockRun h b w part v'
-run_beside h b w part v v' run e =
-    record { order = run.order; low = run.low; high = run.high; columns = run.columns; values = run.values; rows = e ∙ run.rows }
+module _ (run : ColumnRun) where
+  abbrev h : ℕ
+  h = run.memory.shape.order
 
-module _ (h b w : ℕ) (part v : List Float) (run : BlockRun h b w part v) where
-  pub run_le : (w ≤ h) × (w ≤ 16)
-  run_le = (omega (arith, run.columns, width_le h (block_of b 16) 0), omega (arith, run.columns, width_le_block h (block_of b 16) 0, block_of_le b 16))
+  abbrev b : ℕ
+  b = run.memory.shape.block
+
+  pub run_le : (run.w ≤ h) × (run.w ≤ 16)
+  run_le =
+      (omega (arith, run.columns, width_le h (block_of b 16) 0), omega (arith, run.columns, width_le_block h (block_of b 16) 0, block_of_le b 16))
 
   -- it is whole where rows are below it
-  pub run_full : w < h → w ≡ block_of b 16
+  pub run_full : run.w < h → run.w ≡ block_of b 16
   unfolding width
   run_full under = omega (arith, run.columns)
 
-  pub run_first : w < h → block_of b w ≡ w
-  run_first under = rw (run_full under) (block_of_block b 16 (omega (arith, run.low)))
+  run_first : run.w < h → block_of b run.w ≡ run.w
+  run_first under = ap (block_of b) (run_full under) ∙ block_of_block b 16 run.memory.block ∙ sym (run_full under)
 
-  run_whole : Whole h b w
-  run_whole =
-      elim (dec_lt w h) [
+  pub run_ends : EndsBlock h b run.w
+  run_ends =
+      elim (dec_lt run.w h) [
         | yes under ↦ inr (run_first under)
         | no last ↦ inl (omega (arith, run_le.0))
       ]
 
   -- rows below it
   pub run_rows :
-      (numbers : Run) (r m : ℕ) → RunIs h b w numbers → w < h → w ≤ r → r + m ≤ h →
-      RowsBelow numbers.start numbers.order numbers.block numbers.corner numbers.columns r m (length part)
+      (numbers : Run) (r m : ℕ) → RunIs run numbers → run.w < h → run.w ≤ r → r + m ≤ h →
+      RowsBelow numbers.start numbers.order numbers.block numbers.corner numbers.columns r m (length run.memory.matrix.now)
   run_rows numbers r m is under low inside =
       rw (is.start, is.order, is.block, is.corner, is.columns)
       (record {
-        order = run.order;
+        order = run.memory.order;
         block = omega (arith, run.low);
         block_high = omega (arith, run.high);
         diagonal = refl;
@@ -69,20 +73,8 @@ module _ (h b w : ℕ) (part v : List Float) (run : BlockRun h b w part v) where
         whole = run_first under;
         above = low;
         inside = inside;
-        size = omega (arith, run.values);
+        size = omega (arith, run.memory.values);
       })
-
-  -- its own rows
-  pub run_triangle : BlockRows h b w part (take w v)
-  run_triangle =
-      record {
-        order = run.order;
-        block = omega (arith, run.low);
-        fits = run_le.0;
-        whole = run_whole;
-        values = run.values;
-        size = omega (arith, length-take w v, run_le.0, run.rows);
-      }
 
 -- ---- its triangle
 
@@ -150,29 +142,32 @@ module _ (h b w : ℕ) (part v u : List Float) (le : w ≤ h) (fits : w ≤ leng
 -- ---- the rows below it
 
 -- m of them as a tile, of which `len` are stored
-module _ (h b w : ℕ) (part : List Float) (numbers : Run) (is : RunIs h b w numbers) where
-  run_entry : (i k : ℕ) → run_at part numbers.start numbers.order numbers.block i k ≡ entries_at (blocked_place h b) part i k
-  run_entry i k = ap (λ p. get_or part p nan) (rw (is.start, is.order, is.block) (zero-add (blocked_place h b i k)))
+module _ (run : ColumnRun) (numbers : Run) (is : RunIs run numbers) where
+  abbrev part : List Float
+  part = run.memory.matrix.now
+
+  run_entry : (i k : ℕ) → run_at part numbers.start numbers.order numbers.block i k ≡ blocked_entries run.memory i k
+  run_entry i k =
+      ap (λ p. get_or part p nan)
+      (rw (is.start, is.order, is.block) (zero-add (blocked_place run.memory.shape.order run.memory.shape.block i k)))
 
   pub tile_rows :
-      (r m len : ℕ) (v tile less v' : List Float) → len ≤ m → ((s : ℕ) → s < m → get_or tile s nan ≡ get_or v (r + s) nan) →
-      TileIs m 1 1
-      (λ q s.
-      minus_products (run_at part numbers.start numbers.order numbers.block (r + q)) (lane_at 1 v s) numbers.columns (tile_at 1 tile q s))
-      less →
-      Replaced nan r len v less v' → RowsSubtracted (entries_at (blocked_place h b) part) w r (r + len) v v'
+      (r m len : ℕ) (v : List Float) (tile less : List (List Float)) (v' : List Float) → len ≤ m →
+      TileIs m 1 (λ q s. get_or v (r + q * 1 + s) nan) tile →
+      TileIs m 1 (λ q s. minus_products (run_at part numbers.start numbers.order numbers.block (r + q)) (lane_at 1 v s) numbers.columns (tile_at tile q s)) less →
+      Filled nan r len (λ q. tile_at less q 0) v v' → RowsSubtracted (blocked_entries run.memory) run.w r (r + len) v v'
   tile_rows r m len v tile less v' few loaded reduced stored =
-      replaced_of_filled _ (λ i. get_or less i nan) r len (r + len) v v' (omega arith) stored
+      replaced_of_filled _ (λ i. tile_at less i 0) r len (r + len) v v' (omega arith) stored
       (λ i p.
-      let at : i * 1 + 0 ≡ i = omega arith in
+      let at : r + i * 1 + 0 ≡ r + i = omega arith in
       let row : ℕ → Float = run_at part numbers.start numbers.order numbers.block (r + i) in
-      ap (λ q. get_or less q nan) (sym at) ∙ reduced i 0 (omega arith) (omega arith)
-      ∙ ap (λ c. minus_products row (lane_at 1 v 0) c (tile_at 1 tile i 0)) is.columns
-      ∙ products_same row (λ k. entries_at (blocked_place h b) part (r + i) k) (lane_at 1 v 0) (λ k. get_or v k nan) w (tile_at 1 tile i 0)
+      reduced i 0 (omega arith) (omega arith)
+      ∙ ap (λ c. minus_products row (lane_at 1 v 0) c (tile_at tile i 0)) is.columns
+      ∙ products_same row (λ k. blocked_entries run.memory (r + i) k) (lane_at 1 v 0) (λ k. get_or v k nan) run.w (tile_at tile i 0)
       (λ k q. run_entry (r + i) k)
       (λ k q. let here : 1 * k + 0 ≡ k = omega arith in ap (λ z. get_or v z nan) here)
-      ∙ ap (minus_products (λ k. entries_at (blocked_place h b) part (r + i) k) (λ k. get_or v k nan) w)
-      (ap (λ q. get_or tile q nan) at ∙ loaded i (omega arith)))
+      ∙ ap (minus_products (λ k. blocked_entries run.memory (r + i) k) (λ k. get_or v k nan) run.w)
+      (loaded i 0 (omega arith) (omega arith) ∙ ap (λ q. get_or v q nan) at))
 
 -- their products with the run's columns
 pub tile_columns :
@@ -195,40 +190,42 @@ width_here : (n b c : ℕ) → width n b c ≡ width (n - c) b 0
 unfolding width
 width_here n b c = omega arith
 
-module _ (n b c at w : ℕ) (matrix y work v' : List Float) (low : 1 < b) (high : b < 16) (size : length matrix ≡ triangle n)
-    (first : block_of (block_of b 16) c ≡ c) (place : at ≡ block_start n c) (wide : w ≡ width n (block_of b 16) c) (inside : c ≤ n) where
-  abbrev part : List Float
-  part = take (length matrix - at) (drop at matrix)
+module _ (f : Blocked) (c : ℕ) (run : ColumnRun) (first : block_of (block_of f.shape.block 16) c ≡ c) (inside : c ≤ f.shape.order) (held : RunAt f c run)
+  where
+    pub run_wide : run.w ≡ width f.shape.order (block_of f.shape.block 16) c
+    run_wide =
+        run.columns ∙ ap₂ (λ n b. width n (block_of b 16) 0) held.order held.block
+        ∙ sym (width_here f.shape.order (block_of f.shape.block 16) c)
 
-  abbrev solved : Triangle
-  solved = load (blocked_place n b) (height n) n matrix
+    pub run_fits : c + run.w ≤ f.shape.order
+    run_fits = omega (arith, held.order, run_le run)
 
-  pub run_lent : n ≤ max_order → length work ≡ n → BlockRun (n - c) b w part (lent c work)
-  run_lent order rows =
-      record {
-        order = omega arith;
-        low = low;
-        high = high;
-        columns = wide ∙ width_here n (block_of b 16) c;
-        values = omega (arith, length_part nan at (length matrix - at) matrix (omega (arith, triangle_rest n c inside)), triangle_rest n c inside);
-        rows = length_lent n c work rows inside;
-      }
+    pub run_next : c + block_of f.shape.block 16 < f.shape.order → run.w ≡ block_of f.shape.block 16
+    unfolding width
+    run_next less = omega (arith, run_wide)
 
-  fits : c + w ≤ n
-  fits = omega (arith, width_le n (block_of b 16) c)
+    pub run_end : c + run.w ≡ min (c + block_of f.shape.block 16) f.shape.order
+    unfolding width
+    run_end = omega (arith, run_wide, run_fits)
 
-  agrees : Agrees n c w solved (entries_at (blocked_place (n - c) b) part)
-  agrees =
-      rw place
-      (run_agrees n c matrix b (length matrix - block_start n c) w (omega arith) (block_of_run b 16 c (omega arith) first) fits
-      (omega (arith, triangle_rest n c inside)))
+    agrees : Agrees f.shape.order c run.w (blocked_factor f) (blocked_entries run.memory)
+    agrees =
+        rw (held.order, held.block, held.part ∙ sym (take_rest f.matrix.now (block_start f.shape.order c)))
+        (run_agrees f.shape.order c f.matrix.now f.shape.block (length f.matrix.now - block_start f.shape.order c) run.w f.block
+        (block_of_run f.shape.block 16 c f.block first) run_fits (omega (arith, f.values, triangle_rest f.shape.order c inside)))
 
-  pub run_forward :
-      ForwardTo n solved y c work → ForwardDone (entries_at (blocked_place (n - c) b) part) (n - c) w (lent c work) v' →
-      ForwardTo n solved y (c + w) (returned c work v')
-  run_forward state done = forward_lent n c w solved y work v' (entries_at (blocked_place (n - c) b) part) fits agrees state done
+    module _ (y work v' : List Float) where
+      pub run_forward :
+          ForwardTo f.shape.order (blocked_factor f) y c work → ForwardDone (blocked_entries run.memory) run.memory.shape.order run.w (lent c work) v' →
+          ForwardTo f.shape.order (blocked_factor f) y (c + run.w) (returned c work v')
+      run_forward state done =
+          forward_lent f.shape.order c run.w (blocked_factor f) y work v' (blocked_entries run.memory) run_fits agrees state
+          (subst (λ h. ForwardDone (blocked_entries run.memory) h run.w (lent c work) v') held.order done)
 
-  pub run_backward :
-      BackwardTo n solved y (c + w) work → BackwardDone (entries_at (blocked_place (n - c) b) part) (n - c) w (lent c work) v' →
-      BackwardTo n solved y c (returned c work v')
-  run_backward state done = backward_lent n c w solved y work v' (entries_at (blocked_place (n - c) b) part) fits agrees state done
+      pub run_backward :
+          BackwardTo f.shape.order (blocked_factor f) y (c + run.w) work →
+          BackwardDone (blocked_entries run.memory) run.memory.shape.order run.w (lent c work) v' →
+          BackwardTo f.shape.order (blocked_factor f) y c (returned c work v')
+      run_backward state done =
+          backward_lent f.shape.order c run.w (blocked_factor f) y work v' (blocked_entries run.memory) run_fits agrees state
+          (subst (λ h. BackwardDone (blocked_entries run.memory) h run.w (lent c work) v') held.order done)

@@ -1,3 +1,4 @@
 -- What the loops of the two solvers promise.
 pub mod Substitution
 pub mod Solving
+pub mod Parts

@@ -1,71 +1,14 @@
--- What is promised of one block column in a substitution, or of a run of them. Rows and columns count from its first that is not left out; h is the
--- number of its rows and w that of its columns, and its first w rows are its triangle. `coefficient r s` is the factor's entry in row r and column s.
-use Rattle.std.specs.Prelude.{ℕ, ◌+◌, ◌-◌, ◌*◌, ◌≤◌, ◌<◌, ◌≡◌, ◌⊎◌, List, length, get_or, Float}
+-- What is promised of a part of a factor in a substitution: h is the number of its rows and w that of its columns, and its first w rows are its triangle.
+-- `coefficient r s` is the factor's entry in row r and column s.
+use Rattle.std.specs.Prelude.{ℕ, ◌+◌, ◌-◌, ◌*◌, ◌≤◌, ◌<◌, ◌≡◌, List, length, get_or, Float}
 use Rattle.std.specs.Float.{nan, binary64}
 use Rattle.std.specs.Float.Ieee.{sub, mul, div}
-use Rattle.shape.specs.Bounds.{max_order}
-use Rattle.shape.specs.Places.{triangle, block_of, block_start, width, place_in_block}
-use Rattle.calls.specs.Triangles.{place_from}
 use Rattle.calls.specs.Arithmetic.{minus_products}
-use Rattle.kernels.specs.declared.tiles.Run.{Run}
 use Rattle.kernels.specs.Kernels.{Scattered}
-use Rattle.solve.specs.declared.blocked.Trailing.{Trailing}
 
 -- the entries that a memory holds at the places of a layout
 abbrev pub entries_at : (ℕ → ℕ → ℕ) → List Float → ℕ → ℕ → Float
 entries_at place memory r s = get_or memory (place r s) nan
-
--- a block column of blocked memory and the right-hand side's rows beside it
-pub record BlockColumn (block : Trailing) (part work : List Float) : Type 0 where
-  pub order : block.skip + block.h ≤ max_order
-  pub columns : 0 < block.w
-  pub fits : block.w ≤ block.h
-  pub values : block_start (block.skip + block.h) (block.skip + block.w) ≤ length part
-  pub rows : length work ≡ block.h
-
--- its entries: the part begins with the whole block column
-abbrev pub block_entries : Trailing → List Float → ℕ → ℕ → Float
-block_entries block part = entries_at (place_from block.skip (place_in_block (block.skip + block.w))) part
-
--- what is left, from column k on, of the block column that holds it
-pub record TrailingOf (n b k : ℕ) (block : Trailing) : Type 0 where
-  pub skip : block_of b k + block.skip ≡ k
-  pub h : block.h ≡ n - k
-  pub w : block.skip + block.w ≡ width n b (block_of b k)
-
--- a factor in blocked memory, and the right-hand side's rows from k on
-pub record BlocksFrom (n b k : ℕ) (matrix work : List Float) : Type 0 where
-  pub order : n ≤ max_order
-  pub block : 0 < b
-  pub before : k ≤ n
-  pub values : length matrix ≡ triangle n
-  pub rows : length work ≡ n - k
-
--- the first `rows` rows of a factor in blocked memory, which end with a block column, and the right-hand side's rows beside them
-pub record BlockRows (n b rows : ℕ) (matrix work : List Float) : Type 0 where
-  pub order : n ≤ max_order
-  pub block : 0 < b
-  pub fits : rows ≤ n
-  pub whole : (rows ≡ n) ⊎ (block_of b rows ≡ rows)
-  pub values : triangle n ≤ length matrix
-  pub size : length work ≡ rows
-
--- a run: as many whole block columns of blocked memory as sixteen columns hold, or the last ones, and the right-hand side's rows beside it
-pub record BlockRun (h b w : ℕ) (part work : List Float) : Type 0 where
-  pub order : h ≤ max_order
-  pub low : 1 < b
-  pub high : b < 16
-  pub columns : w ≡ width h (block_of b 16) 0
-  pub values : triangle h ≤ length part
-  pub rows : length work ≡ h
-
--- its numbers, for the kernels
-pub record RunIs (h b w : ℕ) (run : Run) : Type 0 where
-  pub start : run.start ≡ 0
-  pub order : run.order ≡ h
-  pub block : run.block ≡ b
-  pub corner : run.corner ≡ triangle b
-  pub columns : run.columns ≡ w
 
 -- v' is v but for the rows from `from` on and before `to`, where it is `value r`
 pub record RowsReplaced (value : ℕ → Float) (from to : ℕ) (v v' : List Float) : Type 0 where

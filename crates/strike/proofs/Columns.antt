@@ -5,7 +5,7 @@ use native.Mathlib.Omega.{arith}
 use native.Mathlib.Decide.{dec_lt}
 use mathlib.Core.Path.{◌≡◌, refl, sym, ap, ◌∙◌}
 use mathlib.Core.List.{List}
-use lib.ListN.{length, get_or, take}
+use lib.ListN.{length, get_or, take, drop}
 use lib.Seq.{get_or-take, length-take-le}
 use lib.Ieee.{Float, nan}
 use Rattle.shape.specs.Places.{triangle, packed_place, block_start}
@@ -18,6 +18,7 @@ use Rattle.strike.proofs.Selections.{rising_length}
 use Rattle.strike.proofs.Strikes.{rising_entry, rising_forward}
 use Rattle.kernels.specs.Kernels.{Filled}
 use Rattle.strike.specs.Rows.{rows_at, Ahead, Unknowns}
+use Rattle.strike.proofs.Rows.{PartOf, length_slice, part_slice}
 
 pub row_le_place : (n i j : ℕ) → i ≤ packed_place n i j
 unfolding packed_place
@@ -66,6 +67,15 @@ module _ (n : ℕ) (unknowns : List ℕ) (u : Unknowns n unknowns) where
   -- ---- column c
 
   module _ (c base to : ℕ) (inside : c < p) (first : base + get_or unknowns c 0 ≡ source c c) (start : to ≡ block_start p c) where
+    abbrev rows : List ℕ
+    rows = take (p - c) (drop c unknowns)
+
+    rest : PartOf unknowns rows c
+    rest = part_slice unknowns c (p - c) (omega arith)
+
+    all : c + length rows ≡ p
+    all = omega (arith, length_slice unknowns c (p - c) (omega arith))
+
     at_row : (i : ℕ) → Entry p i c → base + get_or unknowns i 0 ≡ source i c
     at_row i e =
         omega (arith, first, packed_place_rows n (get_or unknowns c 0) (get_or unknowns i 0) (get_or unknowns c 0) (entry_of i c e).lower, (entry_of i c e).lower)
@@ -73,24 +83,29 @@ module _ (n : ℕ) (unknowns : List ℕ) (u : Unknowns n unknowns) where
     to_row : (i : ℕ) → Entry p i c → to + (i - c) ≡ target i c
     to_row i e = omega (arith, start, packed_place_column p i c e.lower (omega arith))
 
-    row : (k : ℕ) → k < p - c → Entry p (c + k) c
-    row k h = record { lower = omega arith; inside = omega arith }
+    row : (k : ℕ) → k < length rows → Entry p (c + k) c
+    row k h = record { lower = omega arith; inside = omega (arith, all) }
 
-    pub next_start : to + (p - c) ≡ block_start p (c + 1)
-    next_start = omega (arith, start, block_start_next p c inside)
+    pub next_start : to + length rows ≡ block_start p (c + 1)
+    next_start = omega (arith, all, start, block_start_next p c inside)
 
-    pub column_ahead : Ahead unknowns base c to (p - c) (triangle n)
+    pub column_ahead : Ahead rows base to (triangle n)
     column_ahead =
         record {
-          listed = omega arith;
           room = omega (arith, next_start, block_start_le p (c + 1) (omega arith), triangle_mono p n order_le);
-          inside = λ k h. omega (arith, at_row (c + k) (row k h), source_below (c + k) c (row k h));
+          inside = λ k h. omega (arith, rest.same k h, at_row (c + k) (row k h), source_below (c + k) c (row k h));
           ahead = λ k h.
-              omega (arith, at_row (c + k) (row k h), to_row (c + k) (row k h), rising_forward unknowns n u.rising u.below (c + k) c (row k h));
+              omega (
+                arith,
+                rest.same k h,
+                at_row (c + k) (row k h),
+                to_row (c + k) (row k h),
+                rising_forward unknowns n u.rising u.below (c + k) c (row k h),
+              );
         }
 
     pub column_moved :
-        (m m' m'' : List Float) → ColumnsMoved n unknowns m c m' → Filled nan to (p - c) (rows_at m' unknowns base c) m' m'' → ColumnsMoved n unknowns m (c + 1) m''
+        (m m' m'' : List Float) → ColumnsMoved n unknowns m c m' → Filled nan to (length rows) (rows_at m' rows base) m' m'' → ColumnsMoved n unknowns m (c + 1) m''
     column_moved m m' m'' before filled = record { done = done; left = left }
       where
         done : (i j : ℕ) → Entry p i j → j < c + 1 → get_or m'' (target i j) nan ≡ get_or m (source i j) nan
@@ -103,8 +118,8 @@ module _ (n : ℕ) (unknowns : List ℕ) (u : Unknowns n unknowns) where
                   let back : c + (i - c) ≡ i = omega (arith, e'.lower) in
                   rw same
                   (ap (λ x. get_or m'' x nan) (sym (to_row i e'))
-                  ∙ filled.inside (i - c) (omega (arith, e'.lower, e'.inside))
-                  ∙ ap (λ x. get_or m' (base + get_or unknowns x 0) nan) back
+                  ∙ filled.inside (i - c) (omega (arith, all, e'.lower, e'.inside))
+                  ∙ ap (λ x. get_or m' (base + x) nan) (rest.same (i - c) (omega (arith, all, e'.lower, e'.inside)) ∙ ap (λ x. get_or unknowns x 0) back)
                   ∙ ap (λ x. get_or m' x nan) (at_row i e')
                   ∙ before.left i c e' (omega arith))
             ]

@@ -1,8 +1,8 @@
 -- What the call returns and leaves, from the result of its checks and from its moves. Assumes nothing.
 use Prim.Native.Nat.{ℕ, ◌-◌, ◌≤◌}
 use native.Mathlib.Omega.{arith}
-use mathlib.Core.Path.{◌≡◌, refl, ap, ap₂, ◌∙◌}
-use mathlib.Core.Bool.{true, false}
+use mathlib.Core.Path.{◌≡◌, refl, sym, ap, ap₂, ◌∙◌}
+use mathlib.Core.Bool.{false}
 use mathlib.Core.List.{List, [], ◌++◌, append-nil}
 use lib.ListN.{length, take, drop, replicate, length-drop, drop_of_length-le}
 use lib.Seq.{length-take-le}
@@ -10,12 +10,14 @@ use lib.Ieee.{Float}
 use Rattle.binary64.specs.Kinds.{zero64}
 use Rattle.shape.specs.Places.{triangle}
 use Rattle.shape.specs.declared.Shape.{Shape}
-use Rattle.calls.specs.declared.Verdict.{Verdict}
+use Rattle.calls.specs.declared.outcomes.Refusal.{Refusal}
 use Rattle.calls.specs.declared.Call.TheVariants.{Strike}
-use Rattle.calls.specs.Refusals.{accepted}
+use Rattle.calls.specs.Refusals.{success, accepted}
+use Rattle.calls.specs.Outcomes.{verdict_of_refusal}
+use Rattle.calls.proofs.OutcomeLaws.{not_accepted}
 use Rattle.calls.specs.Calls.{result_of}
 use Rattle.calls.specs.Strikes.{kept, struck, Fresh, strike_checks, StruckAs, smaller, strike}
-use Rattle.strike.proofs.Strikes.{kept_remain, kept_below, length_kept, front_entries, StrikeAccepted, strike_accepted, strike_passes, strike_refused_lem, strike_passed}
+use Rattle.strike.proofs.Strikes.{kept_remain, kept_below, length_kept, front_entries, StrikeAccepted, strike_accepted, strike_refused_lem, strike_passed}
 use Rattle.strike.specs.Rows.{Unknowns}
 
 pub kept_unknowns : (list : List ℕ) (n : ℕ) → Unknowns n (kept list n)
@@ -35,25 +37,19 @@ struck_of list n size matrix m zeros e same fit fresh cleared =
     ap₂ ◌++◌ (ap (λ k. take k m) e ∙ front_entries list n matrix (take (triangle (length (kept list n))) m) fresh)
     (ap (λ t. zeros ++ t) none ∙ append-nil zeros ∙ cleared ∙ ap (λ k. replicate k zero64) behind)
 
-module _ (shape : Shape) (list : List ℕ) (matrix : List Float) (r : Verdict) (checks : r ≡ strike_checks shape list (length matrix)) where
-  pub accepted_sizes : accepted r ≡ true → StrikeAccepted shape list (length matrix)
-  accepted_sizes h =
-      let g : accepted (strike_checks shape list (length matrix)) ≡ true = cc in
-      strike_accepted shape list (length matrix) (rw g tt)
-
-  pub refused_done : accepted r ≡ false → StruckAs (strike shape list matrix) (result_of Strike shape r) matrix
-  refused_done h =
-      let g : accepted (strike_checks shape list (length matrix)) ≡ false = cc in
+module _ (shape : Shape) (list : List ℕ) (matrix : List Float) where
+  pub refused_done : (r : Refusal) → verdict_of_refusal r ≡ strike_checks shape list (length matrix) → StruckAs (strike shape list matrix) (result_of Strike shape (verdict_of_refusal r)) matrix
+  refused_done r checks =
+      let g : accepted (strike_checks shape list (length matrix)) ≡ false = ap accepted (sym checks) ∙ not_accepted r in
       rw (strike_refused_lem shape list matrix g) (record { result = ap (result_of Strike shape) checks; matrix = refl })
 
-  pub accepted_done :
-      {matrix' : List Float} → accepted r ≡ true → matrix' ≡ struck (kept list shape.order) shape.order matrix →
-      StruckAs (strike shape list matrix) (result_of Strike (smaller shape (shape.order - length list)) r) matrix'
-  accepted_done h moved =
-      let a = accepted_sizes h in
-      let order : shape.order - length list ≡ length (kept list shape.order) = omega (arith, length_kept shape.order list a.listed) in
-      rw (strike_passed shape list matrix a)
-      (record {
-        result = ap₂ (λ p v. result_of Strike (smaller shape p) v) order (checks ∙ strike_passes shape list (length matrix) a);
-        matrix = moved;
-      })
+  module _ (checks : success ≡ strike_checks shape list (length matrix)) where
+    pub accepted_sizes : StrikeAccepted shape list (length matrix)
+    accepted_sizes = strike_accepted shape list (length matrix) (rw (← checks) tt)
+
+    pub accepted_done :
+        {matrix' : List Float} → matrix' ≡ struck (kept list shape.order) shape.order matrix →
+        StruckAs (strike shape list matrix) (result_of Strike (smaller shape (shape.order - length list)) success) matrix'
+    accepted_done moved =
+        let order : shape.order - length list ≡ length (kept list shape.order) = omega (arith, length_kept shape.order list accepted_sizes.listed) in
+        rw (strike_passed shape list matrix accepted_sizes) (record { result = ap (λ p. result_of Strike (smaller shape p) success) order; matrix = moved })

@@ -23,7 +23,7 @@ use Rattle.calls.specs.declared.Verdict.{Verdict}
 use Rattle.calls.specs.declared.Layout.TheVariants.{Packed}
 use Rattle.calls.specs.declared.Call.TheVariants.{Strike}
 use Rattle.calls.specs.declared.states.State.TheVariants.{Raw}
-use Rattle.calls.specs.declared.states.Transition.TheVariants.{Gives, Unsuited}
+use Rattle.std.specs.Prelude.{Some, None}
 use Rattle.calls.specs.Sequences.{iterate, contains}
 use Rattle.calls.specs.Triangles.{Triangle, entry, height, load, store_column, store}
 use Rattle.calls.specs.States.{look_up, next, suits}
@@ -155,7 +155,7 @@ state_raw : (state : ℕ) → T (suits (next Strike state)) → state ≡ 0
 unfolding look_up
 state_raw state = go (eqb state 0) refl
   where
-    go : (b : Bool) → eqb state 0 ≡ b → T (suits (cond b (Gives (Raw Packed)) Unsuited)) → state ≡ 0
+    go : (b : Bool) → eqb state 0 ≡ b → T (suits (cond b (Some (Raw Packed)) None)) → state ≡ 0
     go true e t = eqb-true state 0 e
     go false e t = absurd t
 

@@ -3,16 +3,15 @@ use Rattle.std.specs.Prelude.{ℕ, ◌+◌, ◌≤◌, ◌<◌, List, length, ge
 use Rattle.std.specs.Float.{nan}
 use Rattle.calls.specs.Sequences.{Rising}
 
--- the values of the rows from position `at` of the list on
-abbrev pub rows_at : List Float → List ℕ → ℕ → ℕ → ℕ → Float
-rows_at m rows base at = λ k. get_or m (base + get_or rows (at + k) 0) nan
+-- the values of the rows
+abbrev pub rows_at : List Float → List ℕ → ℕ → ℕ → Float
+rows_at m rows base = λ k. get_or m (base + get_or rows k 0) nan
 
--- `count` of them go to places to, to + 1, .. of a memory of the given size, and each stands there already or behind that place.
-pub record Ahead (rows : List ℕ) (base at to count size : ℕ) : Type 0 where
-  pub listed : at + count ≤ length rows
-  pub room : to + count ≤ size
-  pub inside : (k : ℕ) → k < count → base + get_or rows (at + k) 0 < size
-  pub ahead : (k : ℕ) → k < count → to + k ≤ base + get_or rows (at + k) 0
+-- They go to places to, to + 1, .. of a memory of the given size, and each stands there already or behind that place.
+pub record Ahead (rows : List ℕ) (base to size : ℕ) : Type 0 where
+  pub room : to + length rows ≤ size
+  pub inside : (k : ℕ) → k < length rows → base + get_or rows k 0 < size
+  pub ahead : (k : ℕ) → k < length rows → to + k ≤ base + get_or rows k 0
 
 -- rising unknowns below n
 pub record Unknowns (n : ℕ) (unknowns : List ℕ) : Type 0 where

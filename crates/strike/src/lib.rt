@@ -12,34 +12,26 @@ ghost use Rattle.strike.specs.Rows.{Unknowns};
 mod moves;
 mod rules;
 
-use calls::{Call, CallResult};
+use calls::{Call, CallResult, Success};
 use moves::move_column;
 use rules::check_strike;
 use shape::Shape;
 
-// The unknown at position q of the list, or n where the list ends.
-fn struck_at(list: &[usize], q: usize, n: usize) -> usize
-    ensures { result ≡ get_or list.now q n }
-{
-    if q < list.len() { list[q] } else { n }
-}
-
-// The unknowns below n that the list does not name, rising.
-fn keep(n: usize, list: &[usize], unknowns: &mut [usize])
+// The unknowns below n that the list does not name, rising, at the front of the memory lent for them.
+fn keep<'a>(n: usize, list: &[usize], memory: &'a mut [usize]) -> &'a [usize]
     requires list_value { rule20 n list.now ≡ success }
-    requires n_in_bounds { n ≤ length unknowns.old }
-    ensures { take (n - length list.now) unknowns.new ≡ kept list.now n }
+    requires n_in_bounds { n ≤ length memory.old }
+    ensures { result.now ≡ kept list.now n }
 {
     let mut q = 0;
-    let mut u = 0;
-    while u < n {
-        if struck_at(list, q, n) == u {
+    for u in 0..n {
+        if list.get(q) == Some(&u) {
             q += 1;
         } else {
-            unknowns[u - q] = u;
+            memory[u - q] = u;
         }
-        u += 1;
     }
+    &memory[..n - q]
 }
 
 // The entries of these unknowns, column by column, to the front of the memory; how many they are.
@@ -49,15 +41,12 @@ fn move_columns(shape: Shape, unknowns: &[usize], matrix: &mut [f64]) -> usize
     ensures value { result ≡ triangle (length unknowns.now) }
     ensures fresh { Fresh unknowns.now shape.order matrix.old (take (triangle (length unknowns.now)) matrix.new) }
 {
-    let p = unknowns.len();
     let mut to = 0;
-    let mut c = 0;
-    while c < p {
-        let j = unknowns[c];
+    for (c, &j) in unknowns.iter().enumerate() {
         let base = shape.packed_place(j, j) - j;
-        move_column(matrix, unknowns, base, c, to);
-        to += p - c;
-        c += 1;
+        let rows = &unknowns[c..];
+        move_column(matrix, rows, base, to);
+        to += rows.len();
     }
     to
 }
@@ -68,25 +57,23 @@ fn strike_list(shape: Shape, list: &[usize], matrix: &mut [f64])
     requires list_value { rule20 shape.order list.now ≡ success }
     ensures { matrix.new ≡ struck (kept list.now shape.order) shape.order matrix.old }
 {
-    let mut unknowns = [0; Shape::MAX_ORDER];
-    keep(shape.order, list, &mut unknowns);
-    let order = shape.order - list.len();
-    let size = move_columns(shape, &unknowns[..order], matrix);
-    checks::clear(&mut matrix[size..]);
+    // Memory is fixed: room for the unknowns of the highest order.
+    let mut memory = [0; Shape::MAX_ORDER];
+    let unknowns = keep(shape.order, list, &mut memory);
+    let size = move_columns(shape, unknowns, matrix);
+    matrix[size..].fill(0.0);
 }
 
 pub fn strike(shape: Shape, list: &[usize], matrix: &mut [f64]) -> CallResult
     ensures { StruckAs (Strikes.strike shape list.now matrix.old) result matrix.new }
 {
-    let checks = check_strike(shape, list, matrix.len());
-    if !calls::accepted(checks) {
-        return calls::result(Call::Strike, shape, checks);
+    if let Err(refusal) = check_strike(shape, list, matrix.len()) {
+        return calls::result(Call::Strike, shape, Err(refusal));
     }
     strike_list(shape, list, matrix);
     let smaller = Shape {
         order: shape.order - list.len(),
-        block: shape.block,
-        state: shape.state,
+        ..shape
     };
-    calls::result(Call::Strike, smaller, checks)
+    calls::result(Call::Strike, smaller, Ok(Success::PLAIN))
 }

@@ -1,52 +1,46 @@
 // The values of a column's rows moved towards the front of the same memory. Each goes to its own place or before it, in rising order, so that none is
-// written over before it is read.
-ghost use Rattle.std.specs.Prelude.{◌-◌, ◌≤◌, length};
+// written over before it is read. Row 0 of the column would be at place `base`, and the first of the rows goes to place `to`: rows and place go on at every
+// chunk, so they are parameters, and a struct of them with `base` would be made anew each time.
+ghost use Rattle.std.specs.Prelude.{◌≤◌, length};
 ghost use Rattle.std.specs.Float.{nan};
 ghost use Rattle.calls.specs.Sequences.{Rising};
 ghost use Rattle.kernels.specs.Kernels.{Filled};
 ghost use Rattle.strike.specs.Rows.{rows_at, Ahead};
 
-use kernels::{load16, store16};
+use kernels::{load, store};
 
-// Those of `count` rows, from position `at` of the list on, to places to, to + 1, .., one by one.
-fn move_values(m: &mut [f64], rows: &[usize], base: usize, at: usize, to: usize, count: usize)
-    requires { Ahead rows.now base at to count (length m.old) }
-    ensures { Filled nan to count (rows_at m.old rows.now base at) m.old m.new }
+fn move_values(m: &mut [f64], rows: &[usize], base: usize, to: usize)
+    requires { Ahead rows.now base to (length m.old) }
+    ensures { Filled nan to (length rows.now) (rows_at m.old rows.now base) m.old m.new }
 {
-    let mut k = 0;
-    while k < count {
-        m[to + k] = m[base + rows[at + k]];
-        k += 1;
+    for (k, &row) in rows.iter().enumerate() {
+        m[to + k] = m[base + row];
     }
 }
 
-// Sixteen of them, at one go where their rows follow one another.
-fn move16(m: &mut [f64], rows: &[usize], base: usize, at: usize, to: usize)
-    requires ahead { Ahead rows.now base at to 16 (length m.old) }
+// Those of sixteen rows, at one go where these follow one another.
+fn move16(m: &mut [f64], rows: &[usize; 16], base: usize, to: usize)
+    requires ahead { Ahead rows.now base to (length m.old) }
     requires rising { Rising rows.now }
-    ensures { Filled nan to 16 (rows_at m.old rows.now base at) m.old m.new }
+    ensures { Filled nan to 16 (rows_at m.old rows.now base) m.old m.new }
 {
-    let first = rows[at];
-    if rows[at + 15] - first == 15 {
-        let values = load16(m, base + first);
-        store16(m, to, values);
+    let [first, .., last] = *rows;
+    if last - first == 15 {
+        store(m, to, load::<16>(m, base + first));
     } else {
-        move_values(m, rows, base, at, to, 16);
+        move_values(m, rows, base, to);
     }
 }
 
-// All rows from position `at` of the list on.
-pub fn move_column(m: &mut [f64], rows: &[usize], base: usize, at: usize, to: usize)
-    requires at_in_bounds { at ≤ length rows.now }
-    requires ahead { Ahead rows.now base at to (length rows.now - at) (length m.old) }
+pub fn move_column(m: &mut [f64], rows: &[usize], base: usize, mut to: usize)
+    requires ahead { Ahead rows.now base to (length m.old) }
     requires rising { Rising rows.now }
-    ensures { Filled nan to (length rows.now - at) (rows_at m.old rows.now base at) m.old m.new }
+    ensures { Filled nan to (length rows.now) (rows_at m.old rows.now base) m.old m.new }
 {
-    let count = rows.len() - at;
-    let mut k = 0;
-    while k + 16 <= count {
-        move16(m, rows, base, at + k, to + k);
-        k += 16;
+    let (chunks, rest) = rows.as_chunks();
+    for chunk in chunks {
+        move16(m, chunk, base, to);
+        to += 16;
     }
-    move_values(m, rows, base, at + k, to + k, count - k);
+    move_values(m, rest, base, to);
 }

@@ -1,80 +1,47 @@
 -- Laws of specs/Decimals.antt: the digits of a number from the last up, and the lengths of numbers. Assumes nothing.
-use Prim.Native.Nat.{ℕ, zero, suc, ◌+◌, ◌-◌, ◌*◌, ◌/◌, ◌%◌, ◌^◌, ◌≤◌, ◌<◌}
+use Prim.Native.Nat.{ℕ, zero, suc, ◌+◌, ◌/◌, ◌%◌, ◌^◌, ◌≤◌, ◌<◌}
 use native.Mathlib.Nat.{pow-suc}
 use native.Mathlib.Omega.{arith}
 use mathlib.Core.Path.{◌≡◌, sym, ap, ◌∙◌}
 use mathlib.Core.Bool.{Bool, true, false, cond}
-use mathlib.Core.List.{List, [], ◌∷◌, ◌++◌, append-nil}
+use mathlib.Core.List.{List, [], ◌∷◌, ◌++◌}
 use lib.Dec.{ltb}
-use lib.ListN.{length, take, drop, set, length-append, length-drop, length-set}
-use lib.Seq.{take_all, drop-length, append_snoc}
+use lib.ListN.{length, length-append}
 use borrow.Author.Tests.{lt-ltb, le-ltb}
 use Rattle.text.specs.Decimals.{digits, decimal}
-use Rattle.text.proofs.Lists.{drop_set}
 
--- ---- decimal digits, from the last up
+-- ---- decimal digits
 
--- the digits of what is left and those that stand from i on are those of n
-pub record DigitsUp (n left i : ℕ) (buffer : List ℕ) : Type 0 where
-  pub size : length buffer ≡ 20
-  pub within : i ≤ 20
-  pub some : 0 < i
-  pub short : left < 10 ^ i
-  pub text : digits i left ++ drop i buffer ≡ decimal n
-
-pub digits_none : (n : ℕ) (buffer : List ℕ) → n < 2 ^ 64 → length buffer ≡ 20 → DigitsUp n n (length buffer) buffer
-unfolding decimal
-digits_none n buffer h e =
-    rw e (record { size = e; within = omega arith; some = omega arith; short = omega arith; text = ap (λ (k : ℕ). digits 20 n ++ drop k buffer) (sym e) ∙ rw drop-length (append-nil (digits 20 n)) })
-
-two_left : (left i : ℕ) → 10 ≤ left → left < 10 ^ i → 1 < i
-two_left left zero h l = absurd (omega arith)
-two_left left (suc zero) h l = absurd (omega arith)
-two_left left (suc (suc j)) h l = omega arith
+digits_one : (k n : ℕ) → n < 10 → digits (suc k) n ≡ (48 + n) ∷ []
+unfolding digits
+digits_one k n h = rw (lt-ltb n 10 h)
 
 digits_more : (k n : ℕ) → 10 ≤ n → digits (suc k) n ≡ digits k (n / 10) ++ ((48 + n % 10) ∷ [])
 unfolding digits
 digits_more k n h = rw (le-ltb n 10 h)
 
-digits_last : (k n : ℕ) → n < 10 → digits (suc k) n ≡ (48 + n) ∷ []
+-- a number of at most k digits has the same ones where one more is allowed
+digits_enough : (k n : ℕ) → 0 < k → n < 10 ^ k → digits (suc k) n ≡ digits k n
 unfolding digits
-digits_last k n h = rw (lt-ltb n 10 h)
+digits_enough zero n p h = absurd (omega arith)
+digits_enough (suc zero) n p h = rw (lt-ltb n 10 h)
+digits_enough (suc (suc k)) n p h =
+    ap (λ (d : List ℕ). cond (ltb n 10) ((48 + n) ∷ []) (d ++ ((48 + n % 10) ∷ []))) (digits_enough (suc k) (n / 10) (omega arith) (omega (arith, pow-suc 10 (suc k))))
 
--- a turn of the loop, and the store after it
-module _ (n left i : ℕ) (buffer : List ℕ) (u : DigitsUp n left i buffer) where
-  more_left : 10 ≤ left → 1 < i
-  more_left h = two_left left i h u.short
+pub decimal_digit : (n : ℕ) → n < 10 → decimal n ≡ (48 + n % 10) ∷ []
+unfolding decimal
+decimal_digit n h = let e : n ≡ n % 10 = omega arith in digits_one 19 n h ∙ ap (λ (d : ℕ). (48 + d) ∷ []) e
 
-  stored : (d : ℕ) → drop (i - 1) (set buffer (i - 1) d) ≡ d ∷ drop i buffer
-  stored d =
-      let s : suc (i - 1) ≡ i = omega (arith, u.some) in
-      drop_set buffer (i - 1) d (omega (arith, u.size, u.within, u.some)) ∙ ap (λ (k : ℕ). d ∷ drop k buffer) s
+pub length_digit : (n : ℕ) → n < 10 → length (decimal n) ≡ 1
+length_digit n h = ap length (decimal_digit n h)
 
-  pub digits_turn : (d : ℕ) → 10 ≤ left → d ≡ 48 + left % 10 → DigitsUp n (left / 10) (i - 1) (set buffer (i - 1) d)
-  digits_turn d h e =
-      let s : i ≡ suc (i - 1) = omega (arith, u.some) in
-      let p : 10 ^ i ≡ 10 ^ (i - 1) * 10 = ap (λ (k : ℕ). 10 ^ k) s ∙ pow-suc 10 (i - 1) in
-      let t : digits i left ≡ digits (i - 1) (left / 10) ++ ((48 + left % 10) ∷ []) = ap (λ (k : ℕ). digits k left) s ∙ digits_more (i - 1) left h in
-      record {
-        size = length-set buffer (i - 1) d ∙ u.size;
-        within = omega (arith, u.within);
-        some = omega (arith, more_left h);
-        short = omega (arith, p, u.short);
-        text =
-            ap (λ (r : List ℕ). digits (i - 1) (left / 10) ++ r) (stored d ∙ ap (λ (x : ℕ). x ∷ drop i buffer) e)
-            ∙ sym (append_snoc (digits (i - 1) (left / 10)) (48 + left % 10) (drop i buffer))
-            ∙ ap (λ (r : List ℕ). r ++ drop i buffer) (sym t)
-            ∙ u.text;
-      }
+pub decimal_step : (n : ℕ) → 10 ≤ n → n < 2 ^ 64 → decimal n ≡ decimal (n / 10) ++ ((48 + n % 10) ∷ [])
+unfolding decimal
+decimal_step n h l =
+    digits_more 19 n h ∙ ap (λ (d : List ℕ). d ++ ((48 + n % 10) ∷ [])) (sym (digits_enough 19 (n / 10) (omega arith) (omega arith)))
 
-  pub digits_end : (d : ℕ) → left < 10 → d ≡ 48 + left → drop (i - 1) (set buffer (i - 1) d) ≡ decimal n
-  digits_end d h e =
-      let s : i ≡ suc (i - 1) = omega (arith, u.some) in
-      stored d ∙ ap (λ (x : ℕ). x ∷ drop i buffer) e ∙ ap (λ (r : List ℕ). r ++ drop i buffer) (sym (ap (λ (k : ℕ). digits k left) s ∙ digits_last (i - 1) left h)) ∙ u.text
-
--- the buffer's digits, lent from the first of them on
-pub tail_text : (buffer : List ℕ) (r n : ℕ) → length buffer ≡ 20 → r ≤ 20 → drop r buffer ≡ decimal n → take (20 - r) (drop r buffer) ≡ decimal n
-tail_text buffer r n h l e = take_all (20 - r) (drop r buffer) (omega (arith, length-drop r buffer)) ∙ e
+pub length_step : (n : ℕ) → 10 ≤ n → n < 2 ^ 64 → length (decimal n) ≡ length (decimal (n / 10)) + 1
+length_step n h l = ap length (decimal_step n h l) ∙ length-append (decimal (n / 10)) ((48 + n % 10) ∷ [])
 
 -- a number and the byte that ends it
 abbrev pub number_text : ℕ → ℕ → List ℕ

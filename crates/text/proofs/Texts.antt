@@ -1,14 +1,15 @@
 -- Laws of specs/Writing.antt: text after text, a text that a loop copies, and texts that a loop writes one after another. Assumes nothing.
-use Prim.Native.Nat.{ℕ, zero, suc, ◌+◌, ◌*◌, ◌≤◌, ◌<◌}
+use Prim.Native.Nat.{ℕ, zero, suc, ◌+◌, ◌*◌, ◌≤◌}
 use native.Mathlib.Numerals.{add-one}
 use native.Mathlib.Omega.{arith}
 use mathlib.Core.Path.{◌≡◌, refl, sym, ap, ◌∙◌, subst}
 use mathlib.Core.List.{List, [], ◌∷◌, ◌++◌, append_assoc}
-use lib.ListN.{length, get_or, take, drop, set, length-append, length-drop}
-use lib.Seq.{length-take-le, take-length, take_at, drop_at, drop-drop, set_split, append_snoc, paste, paste-zero, paste-suc, length-paste}
+use lib.ListN.{length, take, drop, length-append, length-drop}
+use lib.Seq.{length-take-le, take_at, drop_at, drop-drop, paste-zero}
 use Rattle.calls.specs.Sequences.{iterate, grow, tabulate}
 use Rattle.calls.proofs.Sequences.{length_tabulate}
-use Rattle.text.specs.Writing.{overwrite, Written, pieces}
+use Rattle.text.specs.declared.Writer.{Writer}
+use Rattle.text.specs.Writing.{overwrite, Written, Puts, pieces}
 
 module _ (memory : List ℕ) (at : ℕ) (text : List ℕ) (fits : at + length text ≤ length memory) where
   length_front : length (take at memory ++ text) ≡ at + length text
@@ -54,29 +55,25 @@ written_within w = omega (arith, w.next, simp length-append at (ap length w.memo
 pub nothing_written : (at : ℕ) (a : List ℕ) → Written at [] a at a
 nothing_written at a = record { next = omega arith; memory = paste-zero a at [] }
 
-pub byte_written : (a : List ℕ) (at b : ℕ) → at < length a → Written at (b ∷ []) a (at + 1) (set a at b)
-byte_written a at b h =
-    record {
-      next = refl;
-      memory = set_split a at b h ∙ ap (λ (k : ℕ). take at a ++ b ∷ drop k a) (sym (add-one at)) ∙ sym (append_snoc (take at a) b (drop (at + 1) a));
-    }
+-- ---- what a writer writes
 
--- a loop that copies a text: i bytes of it are there
-module _ (a : List ℕ) (at : ℕ) (text : List ℕ) (fits : at + length text ≤ length a) (out : List ℕ) (i : ℕ) (copied : out ≡ paste a at text i) where
-  pub length_copied : i ≤ length text → length out ≡ length a
-  length_copied h = ap length copied ∙ length-paste a at text i (omega arith) h
+pub puts_nothing : (a : Writer) → Puts [] a a
+puts_nothing a = record { same_buffer = refl; written = nothing_written a.at a.out.now }
 
-  pub copy_turn : i < length text → set out (at + i) (get_or text i 0) ≡ paste a at text (i + 1)
-  copy_turn h =
-      ap (λ (m : List ℕ). set m (at + i) (get_or text i 0)) copied ∙ paste-suc a at text i 0 (omega arith) h ∙ ap (paste a at text) (sym (add-one i))
+-- what is put, and then what is put after it
+pub puts_then : {text more : List ℕ} {a b c : Writer} → a.at + length text ≤ length a.out.now → Puts text a b → Puts more b c → Puts (text ++ more) a c
+puts_then h p q = record { same_buffer = q.same_buffer ∙ p.same_buffer; written = then p.written q.written h }
 
-  pub copy_done : i ≤ length text → length text ≤ i → Written at text a (at + i) out
-  copy_done h k =
-      let e : i ≡ length text = omega arith in
-      record {
-        next = ap (λ (j : ℕ). at + j) e;
-        memory = copied ∙ ap (paste a at text) e ∙ ap (λ (t : List ℕ). take at a ++ t ++ drop (at + length text) a) (take-length text);
-      }
+pub puts_as : {text text' : List ℕ} {a b : Writer} → text ≡ text' → Puts text a b → Puts text' a b
+puts_as {text} {text'} {a} {b} e p = subst (λ (t : List ℕ). Puts t a b) e p
+
+-- a writer keeps the length of its buffer
+pub length_put : {text : List ℕ} {a b : Writer} → a.at + length text ≤ length a.out.now → Puts text a b → length b.out.now ≡ length a.out.now
+length_put h p = length_written h p.written
+
+-- and what a text leaves has room for what is put after it
+pub room_left : {text : List ℕ} {a b : Writer} (k : ℕ) → a.at + length text + k ≤ length a.out.now → Puts text a b → b.at + k ≤ length b.out.now
+room_left k h p = let l = length_put (omega arith) p in omega (arith, p.written.next)
 
 -- ---- texts that a loop writes one after another
 
@@ -99,20 +96,24 @@ module _ (piece : ℕ → List ℕ) where
   unfolding iterate
   pieces_turn at next end k a b c fits w v = let s : k + 1 ≡ suc k = add-one k in rw s (then w v fits)
 
+  -- the same of a writer
+  pub puts_none : (a : Writer) → Puts (pieces piece 0) a a
+  puts_none a = record { same_buffer = refl; written = pieces_none a.at a.out.now }
+
+  pub puts_turn :
+      {a b c : Writer} (k : ℕ) → a.at + length (pieces piece k) ≤ length a.out.now → Puts (pieces piece k) a b → Puts (piece k) b c → Puts (pieces piece (k + 1)) a c
+  puts_turn {a} {b} {c} k h p q =
+      record { same_buffer = q.same_buffer ∙ p.same_buffer; written = pieces_turn a.at b.at c.at k a.out.now b.out.now c.out.now h p.written q.written }
+
 -- bytes, each worked out from its number
 module _ (byte : ℕ → ℕ) where
-  pub tabulated_none : (at : ℕ) (a : List ℕ) → Written at (tabulate 0 byte) a at a
+  pub tabulated_none : (a : Writer) → Puts (tabulate 0 byte) a a
   unfolding tabulate grow
-  tabulated_none at a = nothing_written at a
+  tabulated_none a = puts_nothing a
 
   pub tabulated_turn :
-      (at next end k d : ℕ) (a b c : List ℕ) →
-      at + k ≤ length a →
-      Written at (tabulate k byte) a next b →
-      d ≡ byte k →
-      Written next (d ∷ []) b end c →
-      Written at (tabulate (k + 1) byte) a end c
+      {a b c : Writer} (k d : ℕ) → a.at + k ≤ length a.out.now → Puts (tabulate k byte) a b → d ≡ byte k → Puts (d ∷ []) b c → Puts (tabulate (k + 1) byte) a c
   unfolding tabulate grow
-  tabulated_turn at next end k d a b c fits w e v =
+  tabulated_turn k d h p e q =
       let s : k + 1 ≡ suc k = add-one k in
-      rw s (then w (as_text (ap (λ (x : ℕ). x ∷ []) e) v) (omega (arith, length_tabulate byte k)))
+      rw s (puts_then (omega (arith, length_tabulate byte k)) p (puts_as (ap (λ (x : ℕ). x ∷ []) e) q))

@@ -1,68 +1,60 @@
-// Bytes, texts and decimal numbers written to a buffer at a position. Each writer returns the position after what it wrote.
+// Bytes, texts and decimal numbers, written one after another to a lent buffer.
 #![tactic(auto)]
 
-ghost use Rattle.std.specs.Prelude.{◌≡◌, ◌++◌, ◌∷◌, [], ◌+◌, ◌≤◌, ◌<◌, length, drop};
-ghost use Rattle.text.specs.Writing.{Written};
+ghost use Rattle.std.specs.Prelude.{◌≡◌, ◌++◌, ◌∷◌, [], ◌+◌, ◌≤◌, ◌<◌, length};
+ghost use Rattle.text.specs.Writing.{Puts};
 ghost use Rattle.text.specs.Decimals.{decimal};
 
-pub fn put_text(out: &mut [u8], at: usize, text: &[u8]) -> usize
-    requires { at + length text.now ≤ length out.old }
-    ensures { Written at text.now out.old result out.new }
-{
-    let mut i = 0;
-    while i < text.len() {
-        out[at + i] = text[i];
-        i += 1;
+// A buffer and the position in it after what was written.
+#[derive(Drop)]
+pub struct Writer<'a> {
+    pub out: &'a mut [u8],
+    pub at: usize,
+}
+
+impl<'a> Writer<'a> {
+    pub fn new(out: &'a mut [u8]) -> Writer<'a>
+        ensures same_buffer { result.out.ghost_name ≡ out.entry.ghost_name }
+        ensures unchanged { result.out.now ≡ out.old }
+        ensures start { result.at ≡ 0 }
+    {
+        Writer { out, at: 0 }
     }
-    at + i
-}
 
-pub fn put_byte(out: &mut [u8], at: usize, byte: u8) -> usize
-    requires { at < length out.old }
-    ensures { Written at (byte ∷ []) out.old result out.new }
-{
-    out[at] = byte;
-    at + 1
-}
-
-fn digit(d: usize) -> u8
-    requires { d < 10 }
-    ensures { result ≡ 48 + d }
-{
-    48 + d as u8
-}
-
-// The decimal digits of n at the end of a buffer, and the position of the first: from the last digit up.
-fn decimal_digits(buffer: &mut [u8], n: usize) -> usize
-    requires { length buffer.old ≡ 20 }
-    ensures { (result ≤ 20) × (drop result buffer.new ≡ decimal n) }
-{
-    let mut left = n;
-    let mut i = buffer.len();
-    while 10 <= left {
-        i -= 1;
-        buffer[i] = digit(left % 10);
-        left /= 10;
+    pub fn put_text(&mut self, text: &[u8])
+        requires { self.old.at + length text.now ≤ length self.old.out.now }
+        ensures { Puts text.now self.old self.new }
+    {
+        let end = self.at + text.len();
+        self.out[self.at..end].copy_from_slice(text);
+        self.at = end;
     }
-    i -= 1;
-    buffer[i] = digit(left);
-    i
-}
 
-pub fn put_decimal(out: &mut [u8], at: usize, n: usize) -> usize
-    requires { at + length (decimal n) ≤ length out.old }
-    ensures { Written at (decimal n) out.old result out.new }
-{
-    let mut buffer = [0u8; 20];
-    let start = decimal_digits(&mut buffer, n);
-    put_text(out, at, &buffer[start..])
-}
+    pub fn put_byte(&mut self, byte: u8)
+        requires { self.old.at < length self.old.out.now }
+        ensures { Puts (byte ∷ []) self.old self.new }
+    {
+        self.out[self.at] = byte;
+        self.at += 1;
+    }
 
-// A number and the byte that ends it.
-pub fn put_number(out: &mut [u8], at: usize, n: usize, end: u8) -> usize
-    requires { at + length (decimal n) < length out.old }
-    ensures { Written at (decimal n ++ (end ∷ [])) out.old result out.new }
-{
-    let next = put_decimal(out, at, n);
-    put_byte(out, next, end)
+    // The digits are worked out here: std's `write!` answers with a Result, and no clause says that it is Ok, where this cannot fail.
+    pub fn put_decimal(&mut self, n: usize)
+        requires { self.old.at + length (decimal n) ≤ length self.old.out.now }
+        ensures { Puts (decimal n) self.old self.new }
+    {
+        if n >= 10 {
+            self.put_decimal(n / 10);
+        }
+        self.put_byte(b'0' + (n % 10) as u8);
+    }
+
+    // A number and the byte that ends it.
+    pub fn put_number(&mut self, n: usize, end: u8)
+        requires { self.old.at + length (decimal n) < length self.old.out.now }
+        ensures { Puts (decimal n ++ (end ∷ [])) self.old self.new }
+    {
+        self.put_decimal(n);
+        self.put_byte(end);
+    }
 }

@@ -1,9 +1,8 @@
 -- The right-hand side of a variance call, the answer from its substitutions, and the outcome against the definition. Assumes nothing.
 use Prim.Native.Nat.{ℕ, zero, suc, ◌-◌, ◌≤◌, ◌<◌}
-use native.Mathlib.Nat.{sub-zero}
 use native.Mathlib.Omega.{arith}
 use mathlib.Core.Path.{◌≡◌, refl, sym, ap, ◌∙◌}
-use mathlib.Core.Bool.{Bool, true, false, cond}
+use mathlib.Core.Bool.{true, false, cond}
 use mathlib.Core.List.{List, ◌++◌}
 use borrow.Author.Tests.{ne_eqb}
 use lib.Dec.{eqb}
@@ -12,16 +11,22 @@ use lib.Seq.{length-take-le, get_or-set_same, get_or-set_other}
 use lib.Ieee.{Float, nan}
 use Rattle.binary64.specs.Kinds.{zero64, one64}
 use Rattle.shape.specs.declared.Shape.{Shape}
+use Rattle.std.specs.Prelude.{Ok, Err}
 use Rattle.calls.specs.declared.Verdict.{Verdict}
+use Rattle.calls.specs.declared.outcomes.Refusal.{Refusal}
+use Rattle.calls.specs.declared.outcomes.Refusal.TheVariants.{Solution}
 use Rattle.calls.specs.declared.Layout.{Layout}
 use Rattle.calls.specs.declared.Call.TheVariants.{Variance}
 use Rattle.calls.specs.Triangles.{Triangle}
-use Rattle.calls.specs.Refusals.{accepted, refusal, rule12}
+use Rattle.calls.specs.Refusals.{success, accepted, rule12}
+use Rattle.calls.specs.Outcomes.{verdict_of_refusal}
+use Rattle.calls.proofs.OutcomeLaws.{not_accepted}
 use Rattle.calls.specs.Calls.{result_of, clear}
 use Rattle.calls.specs.Variances.{unit_rhs, variance_checks, variance_verdict, EvaluatedAs, variance}
 use Rattle.calls.proofs.Sequences.{tabulate_of}
-use Rattle.calls.proofs.Variances.{solver_blocks, VarianceAccepted, variance_accepted}
-use Rattle.solve.specs.Solving.{Checked, factor_of, Substituted}
+use Rattle.calls.proofs.Variances.{VarianceAccepted, variance_accepted}
+use Rattle.solve.specs.Solving.{factor_of, passes, rhs_outcome, Substituted}
+use Rattle.solve.proofs.RightSides.{fails, holds}
 
 -- 1 written over the first of n zeros
 pub unit_made : (n : ℕ) → 0 < n → set (replicate n zero64) 0 one64 ≡ unit_rhs n 0
@@ -42,53 +47,44 @@ pub returned_length : (n rows : ℕ) (v w : List Float) → length v ≡ length 
 returned_length n rows v w e le size = omega (arith, length-append v (drop rows w), length-take rows w, length-drop rows w)
 
 -- the answer, by whether every y and x is finite
-module _ (p : ℕ) (l : Triangle) (passed : Bool) (work' : List Float) (s : Substituted p l (unit_rhs p 0) passed work') where
-  pub verdict_refused : passed ≡ false → refusal 12 0 zero64 ≡ variance_verdict p l
+module _ (p : ℕ) (l : Triangle) (work' : List Float) where
+  pub verdict_refused : (e : Refusal) → Substituted p l 0 (unit_rhs p 0) (Err e) work' → verdict_of_refusal e ≡ variance_verdict p l
   unfolding variance_verdict rule12
-  verdict_refused e = rw (sym s.verdict ∙ e) refl
+  verdict_refused e s =
+      let lost : passes p l (unit_rhs p 0) ≡ false = fails (passes p l (unit_rhs p 0)) 0 e s.outcome in
+      let same : Err e ≡ rhs_outcome false 0 = s.outcome ∙ ap (λ b. rhs_outcome b 0) lost in
+      let is : e ≡ Solution 0 = cc in
+      rw (is, lost) refl
 
-  pub verdict_found : passed ≡ true → record { code = 0; place = 0; value = get_or work' 0 nan } ≡ variance_verdict p l
+  pub verdict_found :
+      (u : Unit) → Substituted p l 0 (unit_rhs p 0) (Ok u) work' → record { code = 0; place = 0; value = get_or work' 0 nan } ≡ variance_verdict p l
   unfolding variance_verdict rule12
-  verdict_found e = rw (sym s.verdict ∙ e, s.solved e) refl
+  verdict_found u s =
+      let yes : passes p l (unit_rhs p 0) ≡ true = holds (passes p l (unit_rhs p 0)) 0 u s.outcome in
+      rw (yes, s.solved yes) refl
 
-module _ (layout : Layout) (shape : Shape) (k : ℕ) (a w : List Float) (checks : Verdict) (e : checks ≡ variance_checks layout shape k a (length w)) where
+module _ (layout : Layout) (shape : Shape) (k : ℕ) (a w : List Float) where
   abbrev n : ℕ
   n = shape.order
 
   abbrev b : ℕ
   b = shape.block
 
-  pub checks_refused : accepted checks ≡ false → EvaluatedAs (variance layout shape k a w) (result_of (Variance layout) shape checks) w
+  pub checks_refused :
+      (e : Refusal) → verdict_of_refusal e ≡ variance_checks layout shape k a (length w) →
+      EvaluatedAs (variance layout shape k a w) (result_of (Variance layout) shape (verdict_of_refusal e)) w
   unfolding variance
-  checks_refused f = rw (ap accepted (sym e) ∙ f) (record { result = ap (result_of (Variance layout) shape) e; work = refl })
+  checks_refused e is = rw (ap accepted (sym is) ∙ not_accepted e) (record { result = ap (result_of (Variance layout) shape) is; work = refl })
 
-  module _ (t : accepted checks ≡ true) where
-    known : VarianceAccepted layout shape k a (length w)
-    known = variance_accepted layout shape k a (length w) (rw (ap accepted (sym e) ∙ t) tt)
-
-    pub work_fits : n ≤ length w
-    work_fits = known.sizes.work
+  module _ (passed : success ≡ variance_checks layout shape k a (length w)) where
+    pub checks_accepted : VarianceAccepted layout shape k a (length w)
+    checks_accepted = variance_accepted layout shape k a (length w) (rw (ap accepted (sym passed)) tt)
 
     pub part_length : length (take n w) ≡ n
-    part_length = length-take-le n w work_fits
-
-    pub unknown_inside : k < n
-    unknown_inside = known.inside
-
-    pub checked : Checked layout n b 0 a (take n w)
-    checked =
-        let sizes = known.sizes in
-        record {
-          order = sizes.order;
-          block = λ s. sizes.block_low (solver_blocks layout s);
-          before = omega arith;
-          inside = λ s. absurd (omega arith);
-          matrix_length = sizes.matrix;
-          work_length = part_length ∙ sym (sub-zero n);
-        }
+    part_length = length-take-le n w checks_accepted.sizes.work
 
     pub found :
         (r : Verdict) → r ≡ variance_verdict (n - k) (factor_of layout n b k a) →
         EvaluatedAs (variance layout shape k a w) (result_of (Variance layout) shape r) (replicate n zero64 ++ drop n w)
     unfolding variance clear
-    found r f = rw (ap accepted (sym e) ∙ t) (record { result = ap (result_of (Variance layout) shape) f; work = refl })
+    found r f = rw (ap accepted (sym passed)) (record { result = ap (result_of (Variance layout) shape) f; work = refl })

@@ -1,6 +1,6 @@
--- `acceptance::put_line` meets its contract: the numbers are the line's. Assumes nothing.
+-- The numbers are the line's.
 use native.Mathlib.Omega.{arith}
-use Rattle.text.proofs.Texts.{as_text}
+use Rattle.text.proofs.Texts.{puts_as}
 use Rattle.acceptance.proofs.Systems.{total_small}
 use Rattle.acceptance.proofs.Lines.{line_of}
 use Rattle.acceptance.proofs.put_line.Goals as goal
@@ -12,4 +12,4 @@ count_systems-counts-requires c =
 pub returns : goal.returns
 returns c =
     let a = c.args in
-    as_text (line_of a.run a.n c.total-all.result c.count_systems-counts.result c.total-all.ensures c.count_systems-counts.ensures) c.put_numbers.ensures
+    puts_as (line_of a.run a.n c.total-all.result c.count_systems-counts.result c.total-all.ensures c.count_systems-counts.ensures) c.put_numbers.ensures

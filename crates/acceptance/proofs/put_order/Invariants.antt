@@ -1,13 +1,9 @@
--- `acceptance::put_order` meets its contract. The loop's invariant: the lines of the first k runs are written. Assumes nothing.
-use Prim.Native.Nat.{◌-◌, ◌≤◌}
-use mathlib.Core.Path.{◌≡◌}
-use lib.ListN.{length}
-use Rattle.text.specs.Writing.{Written, pieces}
-use Rattle.acceptance.specs.Counts.{run_of, line}
+-- The lines of the first runs are written.
+use Rattle.text.specs.Writing.{Puts, pieces}
+use lib.ListN.{get_or}
+use Rattle.acceptance.specs.declared.Run.TheVariants.{Plain}
+use Rattle.acceptance.specs.Counts.{line}
 use Rattle.acceptance.proofs.put_order.Given as goal
 
-abbrev pub invariant-loop-k : goal.invariant-loop-k
-invariant-loop-k l = (l.k ≤ l.count) × (length l.out ≡ length l.initial.out) × Written l.at (pieces (λ j. line (run_of j) l.n) l.k) l.initial.out l.next l.out
-
-abbrev pub decreases-loop-k : goal.decreases-loop-k
-decreases-loop-k l = l.count - l.k
+abbrev pub invariant-loop-run : goal.invariant-loop-run
+invariant-loop-run l = Puts (pieces (λ k. line (get_or l.runs k Plain) l.n) l.run-index) l.fn.writer l.writer

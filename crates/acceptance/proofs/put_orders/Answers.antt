@@ -1,30 +1,29 @@
--- `acceptance::put_orders` meets its contract. The loop's invariant: the lines of the orders below n are written. Assumes nothing.
 use native.Mathlib.Omega.{arith}
-use mathlib.Core.Path.{◌≡◌, refl, ap, ◌∙◌}
-use Rattle.text.specs.Writing.{pieces}
-use Rattle.text.proofs.Texts.{as_text, pieces_none, pieces_turn}
+use mathlib.Core.Path.{◌≡◌, ap}
+use Rattle.text.proofs.Texts.{puts_as, puts_none, puts_turn, length_put}
 use Rattle.acceptance.specs.Counts.{order_lines, listing}
-use Rattle.acceptance.proofs.Lines.{length_orders}
+use Rattle.text.specs.Writing.{pieces}
+use Rattle.acceptance.proofs.Lines.{length_orders, order_of}
+use lib.ListN.{length}
 use Rattle.acceptance.proofs.put_orders.Goals as goal
 
 pub loop-n-init : goal.loop-n-init
-loop-n-init c = (omega arith, refl, pieces_none order_lines 0 c.args.out.now)
+loop-n-init c = puts_none order_lines c.args.writer.now
 
-pub put_order-next-requires : goal.put_order-next-requires
-put_order-next-requires c = record { n_bound = omega arith; count_in_bounds = omega (arith, c.requires, length_orders c.loop-n.n) }
+pub put_order-requires-clause-in_bounds : goal.put_order-requires-clause-in_bounds
+put_order-requires-clause-in_bounds c =
+    let inv = c.loop-n.invariant in
+    let short = length_orders c.loop-n.n in
+    omega (arith, c.requires, short, inv.written.next, length_put (omega (arith, c.requires, short)) inv)
 
 pub loop-n-preserved : goal.loop-n-preserved
-unfolding order_lines
 loop-n-preserved c =
-    let a = c.args in
-    let pre = c.requires in
-    (omega arith, c.put_order-next.auto.out ∙ c.loop-n.invariant.1, pieces_turn order_lines 0 c.loop-n.next c.put_order-next.result c.loop-n.n a.out.now c.loop-n.out c.put_order-next.new.out (omega (arith, pre, length_orders c.loop-n.n)) c.loop-n.invariant.2 c.put_order-next.ensures)
-
-pub shape_of-out : goal.shape_of-out
-shape_of-out c = c.loop-n.invariant.1
+    let size : length c.every_run-runs.result ≡ 4 = omega arith in
+    puts_turn order_lines c.loop-n.n (omega (arith, c.requires, length_orders c.loop-n.n)) c.loop-n.invariant
+    (puts_as (order_of c.loop-n.n c.every_run-runs.result size c.every_run-runs.ensures) c.put_order.ensures)
 
 pub returns : goal.returns
 unfolding listing
 returns c =
-    let e : c.loop-n.n ≡ 4 = omega (arith, c.loop-n.invariant.0) in
-    as_text (ap (pieces order_lines) e) c.loop-n.invariant.2
+    let end : c.loop-n.n ≡ 4 = omega arith in
+    puts_as (ap (pieces order_lines) end) c.loop-n.invariant

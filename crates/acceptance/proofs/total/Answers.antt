@@ -1,27 +1,25 @@
--- `acceptance::total` meets its contract. The loop's invariant: the product is a power of 5. Assumes nothing.
-use mathlib.Core.Path.{refl, ap, ◌∙◌}
+-- The power is small, and the one that the definition names.
+use Prim.Native.Nat.{◌^◌, ◌≤◌}
+use native.Mathlib.Nat.{pow-le-pow_right, zero-lt-suc}
 use native.Mathlib.Omega.{arith}
+use mathlib.Core.Path.{◌≡◌, ap, ◌∙◌}
 use Rattle.shape.specs.Places.{triangle}
-use Rattle.acceptance.proofs.Systems.{product_fits, product_turn, product_done}
+use Rattle.acceptance.specs.Systems.{total}
+use Rattle.acceptance.proofs.Systems.{triangle_small}
 use Rattle.acceptance.proofs.total.Goals as goal
 
-pub new-requires : goal.new-requires
-new-requires c = tt
+entries_are : (c : goal.After-triangle-entries) → c.triangle-entries.result ≡ triangle c.args.n
+entries_are c = c.triangle-entries.ensures ∙ ap triangle c.new.ensures.0
 
-pub triangle-entries-requires : goal.triangle-entries-requires
-triangle-entries-requires c = omega (arith, c.new.ensures.0)
+pub overflow_cast-entries : goal.overflow_cast-entries
+overflow_cast-entries c = omega (arith, entries_are c, triangle_small c.args.n c.requires)
 
-pub loop-i-init : goal.loop-i-init
-loop-i-init c = (omega arith, refl, c.triangle-entries.ensures ∙ ap triangle c.new.ensures.0)
-
-pub overflow_mul-product : goal.overflow_mul-product
-overflow_mul-product c =
-    omega (arith, product_fits c.args.n c.triangle-entries.result c.loop-i.i c.loop-i.product c.requires c.loop-i.invariant.2 c.loop-i.invariant.1 c.loop-i-test.true)
-
-pub loop-i-preserved : goal.loop-i-preserved
-loop-i-preserved c =
-    (omega arith, product_turn c.args.n c.triangle-entries.result c.loop-i.i c.loop-i.product c.requires c.loop-i.invariant.2 c.loop-i.invariant.1, c.loop-i.invariant.2)
+pub pow-requires : goal.pow-requires
+pow-requires c =
+    let below : c.triangle-entries.result ≤ 6 = omega (arith, entries_are c, triangle_small c.args.n c.requires) in
+    let p : 5 ^ c.triangle-entries.result ≤ 5 ^ 6 = pow-le-pow_right (zero-lt-suc 4) below in
+    omega arith
 
 pub returns : goal.returns
-returns c =
-    product_done c.args.n c.triangle-entries.result c.loop-i.i c.loop-i.product c.requires c.loop-i.invariant.2 c.loop-i.invariant.1 c.loop-i.invariant.0 c.loop-i-test.false
+unfolding total
+returns c = c.pow.ensures ∙ ap (λ k. 5 ^ k) (entries_are c.before)

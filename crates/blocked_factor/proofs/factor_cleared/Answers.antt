@@ -5,6 +5,7 @@ use mathlib.Core.Path.{◌≡◌, sym, ap, ◌∙◌}
 use lib.ListN.{replicate}
 use Rattle.binary64.specs.Kinds.{zero64}
 use Rattle.shape.specs.Places.{block_work}
+use Rattle.calls.specs.Outcomes.{judgement_of}
 use Rattle.blocked_factor.proofs.BlockLoop.{blocks_factored}
 use Rattle.blocked_factor.proofs.SingleColumns.{work_one, factored_one}
 use Rattle.blocked_factor.proofs.factor_cleared.Goals as goal
@@ -22,7 +23,7 @@ pub returns-then-shape-eq1 : goal.returns-then-shape-eq1
 returns-then-shape-eq1 c =
     let shape = c.args.shape in
     record {
-      factored = rw c.if-shape-eq1.true (factored_one shape.order c.args.m.now c.requires.matrix c.factor_cleared.result _ c.factor_cleared.ensures.factored);
+      factored = rw c.if-shape-eq1.true (factored_one shape.order c.args.m.now c.requires.matrix (judgement_of c.factor_cleared.result) _ c.factor_cleared.ensures.factored);
       work_after = c.factor_cleared.ensures.work_after ∙ ap (λ k. replicate k zero64) (sym (work_single shape.order shape.block c.if-shape-eq1.true));
     }
 
@@ -31,7 +32,7 @@ returns c =
     let shape = c.args.shape in
     let several : 0 < shape.block = omega (arith, c.requires.block) in
     record {
-      factored = blocks_factored shape.order shape.block c.args.m.now _ c.factor_blocks_cleared.result several c.requires.matrix
+      factored = blocks_factored shape.order shape.block c.args.m.now _ (judgement_of c.factor_blocks_cleared.result) several c.requires.matrix
           c.factor_blocks_cleared.ensures.blocks_done;
       work_after = c.factor_blocks_cleared.ensures.work_after;
     }

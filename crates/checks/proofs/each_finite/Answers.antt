@@ -1,6 +1,4 @@
--- `checks::each_finite` meets its contract. The loop's invariant: `passed` says whether the first k values are finite. The measure is what is left of
--- the length. Assumes nothing.
-use native.Mathlib.Omega.{arith}
+-- `checks::each_finite` meets its contract. The loop's invariant: `passed` says whether the values so far are finite. Assumes nothing.
 use mathlib.Core.Path.{refl, ap, ◌∙◌}
 use lib.Seq.{take_all}
 use lib.Ieee.{nan}
@@ -9,16 +7,12 @@ use Rattle.calls.specs.Sequences.{all}
 use Rattle.calls.proofs.Sequences.{all_take}
 use Rattle.checks.proofs.each_finite.Goals as goal
 
-pub loop-k-init : goal.loop-k-init
+pub loop-x-init : goal.loop-x-init
 unfolding all
-loop-k-init c = (omega arith, refl)
+loop-x-init c = refl
 
-pub loop-k-preserved : goal.loop-k-preserved
-loop-k-preserved c =
-    let values = c.args.values.now in
-    (omega arith, cc (all_take finite values c.loop-k.k nan c.loop-k-test.true))
+pub loop-x-preserved : goal.loop-x-preserved
+loop-x-preserved c = cc (all_take finite c.args.values.now c.loop-x.x-index nan c.loop-x-test.true)
 
 pub returns : goal.returns
-returns c =
-    let values = c.args.values.now in
-    c.loop-k.invariant.1 ∙ ap (all finite) (take_all c.loop-k.k values c.loop-k-test.false)
+returns c = c.loop-x.invariant ∙ ap (all finite) (take_all c.loop-x.x-index c.args.values.now c.loop-x-test.false)

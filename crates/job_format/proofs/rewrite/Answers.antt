@@ -1,26 +1,24 @@
--- `job_format::rewrite` meets its contract. By what the sizes' reading gave. Assumes nothing.
-use native.Mathlib.Omega.{arith}
-use mathlib.Core.Path.{refl, sym, ap, ◌∙◌}
+-- `job_format::rewrite` meets its contract. A fault is handed on; else what was read is written. Assumes nothing.
+use mathlib.Core.Path.{◌∙◌}
 use Rattle.job_format.specs.declared.Zeros.TheVariants.{Kept}
-use Rattle.job_format.specs.Format.{parsed_sizes}
-use Rattle.job_format.proofs.Formats.{sizes_bounds, job_fault, job_contents}
-use Rattle.job_format.proofs.JobBytes.{rewrites_fault, rewrites_all}
+use Rattle.job_format.specs.Format.{contents}
+use Rattle.job_format.proofs.Formats.{job_fault, job_contents}
+use Rattle.job_format.proofs.JobBytes.{rewrites_fault, rewrites_job}
 use Rattle.job_format.proofs.rewrite.Goals as goal
 
-pub rewrite_contents-requires : goal.rewrite_contents-requires
-rewrite_contents-requires c =
-    let a = c.args in
-    record { in_bounds = sizes_bounds a.file.now c.in-Found.sizes c.in-Found.at (sym (sym (ap parsed_sizes c.in-Found.is) ∙ c.read_sizes.ensures)); max_job_in_bounds = omega arith }
+pub returns-in_err-sizes : goal.returns-in_err-sizes
+returns-in_err-sizes c =
+    rewrites_fault c.args.file.now c.args.out.now _ c.from_residual.result c.from_residual.ensures.1 (job_fault Kept c.args.file.now _ c.in_err-sizes.ensures.read)
 
-pub returns-in-Fault : goal.returns-in-Fault
-returns-in-Fault c =
-    let a = c.args in
-    rewrites_all a.file.now a.out.now _ a.out.now _ (job_fault Kept a.file.now c.in-Fault.fault (sym (ap parsed_sizes c.in-Fault.is) ∙ c.read_sizes.ensures))
-    (rewrites_fault _ c.in-Fault.fault a.out.now refl)
+pub returns-in_err-read_contents : goal.returns-in_err-read_contents
+returns-in_err-read_contents c =
+    let whole = job_contents Kept c.args.file.now c.in_ok-sizes.sizes c.in_ok-sizes.reader.at c.in_ok-sizes.ensures.read in
+    rewrites_fault c.args.file.now c.args.out.now _ c.from_residual-in_err-read_contents.result c.from_residual-in_err-read_contents.ensures.1
+    (rw (c.in_ok-sizes.ensures.same_file, c.new-job.ensures.same_sizes) at c.in_err-read_contents.ensures.read ∙ whole)
 
-pub returns-in-Found : goal.returns-in-Found
-returns-in-Found c =
-    let a = c.args in
-    rewrites_all a.file.now a.out.now c.rewrite_contents.result c.rewrite_contents.new.out _
-    (job_contents Kept a.file.now c.in-Found.sizes c.in-Found.at (sym (ap parsed_sizes c.in-Found.is) ∙ c.read_sizes.ensures))
-    c.rewrite_contents.ensures
+pub returns : goal.returns
+returns c =
+    let whole = job_contents Kept c.args.file.now c.in_ok-sizes.sizes c.in_ok-sizes.reader.at c.in_ok-sizes.ensures.read in
+    rewrites_job c.args.file.now c.args.out.now (contents c.read_contents.new.job) c.read_contents.new.self.at c.put_job.new.writer.at c.put_job.new.writer.out.now
+    (rw (c.in_ok-sizes.ensures.same_file, c.new-job.ensures.same_sizes) at c.in_ok-read_contents.ensures.read ∙ whole)
+    (rw (c.new-writer.ensures.start, c.new-writer.ensures.unchanged) at c.put_job.ensures.written)

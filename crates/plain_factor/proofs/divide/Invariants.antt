@@ -1,14 +1,13 @@
--- `plain_factor::divide` meets its contract. The loop's invariant: the rows before i are divided. The measure is what is left of the rows. Assumes nothing.
-use Prim.Native.Nat.{◌+◌, ◌-◌, ◌≤◌}
-use lib.ListN.{length, get_or}
+-- `plain_factor::divide` meets its contract. The loop's invariant: the rows so far are divided, and the rest are as they were. Assumes nothing.
+use Prim.Native.Nat.{ℕ, ◌≤◌, ◌<◌}
+use mathlib.Core.Path.{◌≡◌}
+use lib.ListN.{get_or}
 use lib.Ieee.{nan, binary64, div}
-use Rattle.kernels.specs.Kernels.{Filled}
 use Rattle.plain_factor.proofs.divide.Given as goal
 
-abbrev pub invariant-loop-i : goal.invariant-loop-i
-invariant-loop-i l =
-    (l.i ≤ length l.initial.work) × (l.from ≤ l.i)
-    × Filled nan l.from (l.i - l.from) (λ r. div binary64 (get_or l.initial.work (l.from + r) nan) l.diagonal) l.initial.work l.work
-
-abbrev pub decreases-loop-i : goal.decreases-loop-i
-decreases-loop-i l = length l.initial.work - l.i
+abbrev pub invariant-loop-row : goal.invariant-loop-row
+invariant-loop-row l =
+    record {
+      divided : (r : ℕ) → r < l.row-index → get_or l.rows r nan ≡ div binary64 (get_or l.fn.rows r nan) l.diagonal;
+      rest : (r : ℕ) → l.row-index ≤ r → get_or l.rows r nan ≡ get_or l.fn.rows r nan;
+    }

@@ -1,98 +1,44 @@
--- `plain_factor::factor_columns` meets its contract. The loop's invariant: the columns before j are written and judged, and rows of column j wait. The measure is
--- what is left of the columns. Assumes nothing.
-use Prim.Native.Nat.{ℕ, ◌+◌, ◌-◌, ◌<◌}
+-- `plain_factor::factor_columns` meets its contract. Assumes nothing.
 use native.Mathlib.Omega.{arith}
-use mathlib.Core.Path.{◌≡◌, refl, sym, ◌∙◌}
-use mathlib.Core.List.{List}
-use lib.ListN.{length}
-use lib.Ieee.{Float}
+use mathlib.Core.Path.{◌≡◌, refl, ap}
 use Rattle.calls.specs.Sequences.{every}
-use Rattle.calls.specs.Refusals.{success, lowest_refusal}
-use Rattle.calls.specs.Judgements.{judged_to, Joined}
-use Rattle.calls.specs.declared.Judgement.{Judgement}
-use Rattle.shape.specs.Places.{triangle}
-use Rattle.plain_factor.specs.Steps.{Judged}
-use Rattle.plain_factor.proofs.Prefixes.{prefix_of, rule_of, exact_of, prefix_none, column_is, columns_refused, columns_continued, judged_all}
+use Rattle.calls.specs.Refusals.{lowest_refusal}
+use Rattle.calls.specs.Outcomes.{judgement_of}
+use Rattle.calls.proofs.OutcomeLaws.{not_accepted, passed_on}
+use Rattle.plain_factor.proofs.Verdicts.{rows_wait}
+use Rattle.plain_factor.proofs.Prefixes.{prefix_none, columns_refused, columns_continued, judged_all}
 use Rattle.plain_factor.proofs.factor_columns.Goals as goal
 
 pub loop-j-init : goal.loop-j-init
 unfolding lowest_refusal every
-loop-j-init c = (
-  omega arith,
-  c.requires.2,
-  refl,
-  prefix_none c.args.n c.args.matrix.now,
-  refl,
-  rw c.refusal.ensures refl,
-  record { low = omega arith; high = omega arith; tiles = omega arith; room = omega arith },
-  λ r h. absurd (omega arith),
-)
+loop-j-init c = record { written = prefix_none c.args.n c.args.matrix.now; accepted = refl; exact = refl; waiting = tt }
 
-pub next_top-next-requires : goal.next_top-next-requires
-next_top-next-requires c = c.loop-j-test.true
-
-pub factor_column-column-requires : goal.factor_column-column-requires
-factor_column-column-requires c =
-    let pre = c.requires in
+pub returns-in_err-exact : goal.returns-in_err-exact
+returns-in_err-exact c =
     let here = c.loop-j.invariant in
-    record {
-      column = record { order = pre.0; column = c.loop-j-test.true; size = here.2 ∙ pre.1 };
-      work_len = here.1;
-      tops = record { here = here.6; after = c.next_top-next.ensures.room; one = c.next_top-next.ensures.value };
-      waiting = here.7;
-    }
-
-pub shape_of-matrix-then-not-accepted : goal.shape_of-matrix-then-not-accepted
-shape_of-matrix-then-not-accepted c =
-    c.factor_column-column.auto.matrix ∙ c.loop-j.invariant.2
-
-pub shape_of-work-then-not-accepted : goal.shape_of-work-then-not-accepted
-shape_of-work-then-not-accepted c =
-    let pre = c.requires in
-    c.factor_column-column.auto.work ∙ c.loop-j.invariant.1 ∙ sym pre.2
-
--- a turn that is tested: what its columns are judged to
-turn :
-    {n : ℕ} (m : List Float) (j : ℕ) {s s' : List Float} {judged column answer : Judgement} → length m ≡ triangle n → j < n →
-    lowest_refusal (rule_of n m) j ≡ success → judged ≡ judged_to (rule_of n m) (exact_of n m) j → s ≡ prefix_of n m j →
-    Judged n j s column s' → Joined judged column answer → answer ≡ judged_to (rule_of n m) (exact_of n m) (j + 1)
-turn {n} m j {s} {s'} {judged} {column} size inside before is written column_judged joined =
-    joined (rule_of n m) (exact_of n m) j is (column_is n m size j inside before s s' column written column_judged)
-
-pub returns-then-not-accepted : goal.returns-then-not-accepted
-returns-then-not-accepted c =
-    let here = c.loop-j.invariant in
-    let judged = c.factor_column-column.ensures.judged in
-    columns_refused _ _ c.requires.1 _ c.loop-j-test.true here.4 _ _ _ here.3 judged _
-    (turn _ _ c.requires.1 c.loop-j-test.true here.4 here.5 here.3 judged c.joined-joined.ensures) (sym c.accepted.ensures ∙ c.if-not-accepted.true)
+    let passed = passed_on c.from_residual.result c.in_err-exact.field-0.0 c.from_residual.ensures.1 in
+    rw (ap judgement_of passed)
+    (columns_refused c.args.n c.args.matrix.now c.requires.1 c.loop-j.j c.loop-j-test.true here.accepted c.loop-j.matrix _ _ here.written
+    (rw (c.in_err-exact.was) at c.finish_column.ensures.judged) (not_accepted c.in_err-exact.field-0.0))
 
 pub loop-j-preserved : goal.loop-j-preserved
 loop-j-preserved c =
     let here = c.loop-j.invariant in
-    let judged = c.factor_column-column.ensures.judged in
-    let last : c.loop-j.j + 1 - 1 ≡ c.loop-j.j = omega arith in
-    let joined = turn _ _ c.requires.1 c.loop-j-test.true here.4 here.5 here.3 judged c.joined-joined.ensures in
     let next =
-    columns_continued _ _ c.requires.1 _ c.loop-j-test.true here.4 _ _ _ here.3 judged _ joined (sym c.accepted.ensures ∙ c.if-not-accepted.false)
-    in (
-      omega arith,
-      c.factor_column-column.auto.work ∙ here.1,
-      c.factor_column-column.auto.matrix ∙ here.2,
-      next.0,
-      next.1,
-      joined,
-      c.next_top-next.ensures.room,
-      rw last c.factor_column-column.ensures.waiting_2,
-    )
-
-pub shape_of-matrix : goal.shape_of-matrix
-shape_of-matrix c = c.loop-j.invariant.2
-
-pub shape_of-work : goal.shape_of-work
-shape_of-work c = c.loop-j.invariant.1 ∙ sym c.requires.2
+    columns_continued c.args.n c.args.matrix.now c.requires.1 c.loop-j.j c.loop-j-test.true here.accepted c.loop-j.matrix _ _ here.written
+    (rw (c.in_ok-exact.was) at c.finish_column.ensures.judged) refl
+    in
+    record {
+      written = next.0;
+      accepted = next.1;
+      exact = rw here.exact next.2;
+      waiting =
+          rows_wait c.args.n c.loop-j.j c.loop-j.matrix _ _ c.loop-j-test.true c.finish_column.ensures.judged _ _ c.finish_column.ensures.same c.form-top.result
+          c.form-top.ensures.next;
+    }
 
 pub returns : goal.returns
 returns c =
-    let a = c.args in
-    let e : c.loop-j.j ≡ a.n = omega arith in
-    judged_all a.n a.matrix.now c.loop-j.matrix c.loop-j.judged (rw e at c.loop-j.invariant.4) (rw e at c.loop-j.invariant.5) (rw e at c.loop-j.invariant.3)
+    let e : c.loop-j.j ≡ c.args.n = omega arith in
+    let here = c.loop-j.invariant in
+    judged_all c.args.n c.args.matrix.now c.loop-j.matrix c.loop-j.exact (rw e at here.accepted) (rw e at here.exact) (rw e at here.written)

@@ -5,17 +5,22 @@ use native.Mathlib.Omega.{arith}
 use native.Mathlib.Decide.{dec_lt}
 use mathlib.Core.Path.{◌≡◌, refl, sym, ap, ◌∙◌}
 use mathlib.Core.Logic.{◌≢◌}
-use mathlib.Core.Bool.{not}
+use mathlib.Core.Bool.{true, false, not}
 use mathlib.Core.List.{List, [], ◌∷◌, ◌++◌}
+use borrow.Author.Tests.{eqb-true, eqb-false}
+use denote.Ref.{Bor}
+use lib.Dec.{eqb}
+use Rattle.std.specs.Prelude.{Option, None, Some}
+use Rattle.std.specs.Option.{option_map, option_eq, unwrap_or}
 use lib.ListN.{length, get_or, set, take, length-set, get_or-eq_default}
 use lib.Seq.{take-suc-set}
 use Rattle.calls.specs.Sequences.{contains, passing}
 use Rattle.calls.specs.Refusals.{success, rule20}
 use Rattle.calls.specs.Strikes.{kept}
 use Rattle.strike.proofs.Selections.{contains_at, passing_pass, passing_fail}
-use Rattle.strike.proofs.Strikes.{Listed, rule20_accepted, Between, get_d_any, not_listed, kept_count, length_kept}
+use Rattle.strike.proofs.Strikes.{Listed, rule20_accepted, Between, get_d_any, not_listed, kept_count}
 use Rattle.strike.proofs.keep.Goals as goal
-use Rattle.strike.proofs.keep.Goals.{then-struck_at-u, else-struck_at-u}
+use Rattle.strike.proofs.keep.Goals.{then-eq, else-eq}
 
 -- ---- a turn
 
@@ -68,6 +73,16 @@ module _ (n : ℕ) (list : List ℕ) (l : Listed n list) (q u : ℕ) (b : Betwee
         let next : u + 1 - q ≡ u - q + 1 = omega (arith, kept_count n list l u q (omega arith) b) in
         rw (next, add-one (u - q)) (take-suc-set unknowns (u - q) u (omega (arith, kept_count n list l u q (omega arith) b)) ∙ ap (λ xs. xs ++ (u ∷ [])) e ∙ sym kept_kept)
 
+-- ---- what `get` finds at position q, compared with u
+
+holds : (list : List ℕ) (q n : ℕ) (found : Option (Bor ℕ)) (lent : Bor ℕ) → unwrap_or (option_map (λ x. x.now) found) n ≡ get_or list q n → option_eq (λ x y. eqb x.now y.now) found (Some lent) ≡ true → get_or list q n ≡ lent.now
+holds list q n None lent value same = cc
+holds list q n (Some x) lent value same = sym value ∙ eqb-true x.now lent.now same
+
+lacks : (list : List ℕ) (q n : ℕ) (found : Option (Bor ℕ)) (lent : Bor ℕ) → unwrap_or (option_map (λ x. x.now) found) n ≡ get_or list q n → lent.now < n → option_eq (λ x y. eqb x.now y.now) found (Some lent) ≡ false → get_or list q n ≢ lent.now
+lacks list q n None lent value inside other = λ e. omega arith
+lacks list q n (Some x) lent value inside other = λ e. eqb-false x.now lent.now other (value ∙ e)
+
 -- ---- the loop
 
 listed : (n : ℕ) (list : List ℕ) → rule20 n list ≡ success → Listed n list
@@ -81,64 +96,39 @@ pub loop-u-init : goal.loop-u-init
 unfolding kept passing
 loop-u-init c = (omega arith, refl, record { index = omega arith; above = λ x e. absurd (omega arith); below = omega arith }, refl)
 
-pub overflow_add-q : goal.overflow_add-q
-overflow_add-q c =
+pub overflow_sub-memory : goal.overflow_sub-memory
+overflow_sub-memory c =
     let at = c.loop-u in
-    omega (arith, count c.args.n c.args.list.now at.u at.q c.requires.list_value at.invariant.0 at.invariant.2)
-
-pub overflow_sub-unknowns : goal.overflow_sub-unknowns
-overflow_sub-unknowns c =
-    let at = c.loop-u in
-    omega (arith, count c.args.n c.args.list.now at.u at.q c.requires.list_value at.invariant.0 at.invariant.2)
-
-pub offset_bounds-unknowns-u : goal.offset_bounds-unknowns-u
-offset_bounds-unknowns-u c =
-    let at = c.loop-u in
-    omega (arith, count c.args.n c.args.list.now at.u at.q c.requires.list_value at.invariant.0 at.invariant.2)
-
-pub bounds-unknowns-u : goal.bounds-unknowns-u
-bounds-unknowns-u c =
-    let at = c.loop-u in
-    omega (arith, count c.args.n c.args.list.now at.u at.q c.requires.list_value at.invariant.0 at.invariant.2)
+    omega (arith, count c.args.n c.args.list.now at.u-counter at.q c.requires.list_value at.invariant.0 at.invariant.2)
 
 pub loop-u-preserved : goal.loop-u-preserved
 loop-u-preserved c =
     let a = c.args in
     let known = listed a.n a.list.now c.requires.list_value in
-    let found = c.struck_at.ensures in
+    let at = c.loop-u in
     let inside = c.loop-u-test.true in
-    elim c.if-struck_at-u.branch [
-      | then-struck_at-u w ↦
-          let here : get_or a.list.now c.loop-u.q a.n ≡ c.loop-u.u = sym found ∙ w.if-struck_at-u.true in
-          let same : c.loop-u.u + 1 - (c.loop-u.q + 1) ≡ c.loop-u.u - c.loop-u.q = omega arith in
-          rw (w.unknowns-is, w.q-is) (
+    let value = c.get.ensures.lookup.4 (omega arith) a.n in
+    elim c.if-eq.branch [
+      | then-eq w ↦
+          let here : get_or a.list.now at.q a.n ≡ at.u-counter = holds a.list.now at.q a.n c.get.result _ value (sym c.eq.ensures ∙ w.if-eq.true) in
+          let same : at.u-counter + 1 - (at.q + 1) ≡ at.u-counter - at.q = omega arith in
+          rw (w.memory-is, w.q-is) (
             omega arith,
-            c.loop-u.invariant.1,
-            between_struck a.n a.list.now known c.loop-u.q c.loop-u.u c.loop-u.invariant.2 inside here,
-            rw same (c.loop-u.invariant.3 ∙ sym (kept_struck a.n a.list.now known c.loop-u.q c.loop-u.u c.loop-u.invariant.2 inside here)),
+            at.invariant.1,
+            between_struck a.n a.list.now known at.q at.u-counter at.invariant.2 inside here,
+            rw same (at.invariant.3 ∙ sym (kept_struck a.n a.list.now known at.q at.u-counter at.invariant.2 inside here)),
           )
-      | else-struck_at-u w ↦
-          let here : get_or a.list.now c.loop-u.q a.n ≢ c.loop-u.u = λ e. w.if-struck_at-u.false (found ∙ e) in
-          rw (w.unknowns-is, w.q-is) (
+      | else-eq w ↦
+          let here : get_or a.list.now at.q a.n ≢ at.u-counter = lacks a.list.now at.q a.n c.get.result _ value inside (sym c.eq.ensures ∙ w.if-eq.false) in
+          rw (w.memory-is, w.q-is) (
             omega arith,
-            length-set c.loop-u.unknowns (c.loop-u.u - c.loop-u.q) c.loop-u.u ∙ c.loop-u.invariant.1,
-            between_kept a.n a.list.now known c.loop-u.q c.loop-u.u c.loop-u.invariant.2 inside here,
-            written a.n a.list.now known c.loop-u.q c.loop-u.u c.loop-u.invariant.2 inside here c.loop-u.unknowns (omega arith) c.loop-u.invariant.3,
+            length-set at.memory (at.u-counter - at.q) at.u-counter ∙ at.invariant.1,
+            between_kept a.n a.list.now known at.q at.u-counter at.invariant.2 inside here,
+            written a.n a.list.now known at.q at.u-counter at.invariant.2 inside here at.memory (omega arith) at.invariant.3,
           )
     ]
 
-pub shape_of-unknowns : goal.shape_of-unknowns
-shape_of-unknowns c = c.loop-u.invariant.1
-
-pub returns : goal.returns
-returns c =
-    let a = c.args in
-    let end : c.loop-u.u ≡ a.n = omega arith in
-    let known = listed a.n a.list.now c.requires.list_value in
-    let past : c.loop-u.q ≡ length a.list.now = omega (
-      arith,
-      kept_count a.n a.list.now known c.loop-u.u c.loop-u.q c.loop-u.invariant.0 c.loop-u.invariant.2,
-      length_kept a.n a.list.now known,
-      ap (λ u. length (kept a.list.now u)) end,
-    ) in
-    rw (← end, ← past) c.loop-u.invariant.3
+pub slice_bounds-result-count : goal.slice_bounds-result-count
+slice_bounds-result-count c =
+    let at = c.loop-u in
+    omega (arith, count c.args.n c.args.list.now at.u-counter at.q c.requires.list_value at.invariant.0 at.invariant.2)

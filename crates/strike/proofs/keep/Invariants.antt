@@ -8,7 +8,6 @@ use Rattle.strike.proofs.Strikes.{Between}
 use Rattle.strike.proofs.keep.Given as goal
 
 abbrev pub invariant-loop-u : goal.invariant-loop-u
-invariant-loop-u l = (l.u ≤ l.n) × (length l.unknowns ≡ length l.initial.unknowns) × Between l.list l.n l.q l.u × (take (l.u - l.q) l.unknowns ≡ kept l.list l.u)
-
-abbrev pub decreases-loop-u : goal.decreases-loop-u
-decreases-loop-u l = l.n - l.u
+invariant-loop-u l =
+    (l.u-counter ≤ l.n) × (length l.memory ≡ length l.initial.memory) × Between l.list l.n l.q l.u-counter
+    × (take (l.u-counter - l.q) l.memory ≡ kept l.list l.u-counter)

@@ -3,23 +3,17 @@ use Prim.Native.Nat.{ℕ, ◌+◌, ◌-◌, ◌≤◌, ◌<◌}
 use native.Mathlib.Omega.{arith}
 use mathlib.Core.Path.{◌≡◌, refl, sym, ap, ◌∙◌}
 use mathlib.Core.List.{List}
-use lib.ListN.{length, get_or}
+use lib.ListN.{length, get_or, take, drop}
+use Rattle.strike.proofs.Rows.{part_slice, rising_part}
 use Rattle.shape.specs.Places.{triangle, packed_place, block_start}
 use Rattle.shape.proofs.Columns.{block_start_zero, triangle_columns}
 use Rattle.shape.proofs.Bounds.{triangle_le, block_start_le}
 use Rattle.strike.specs.Rows.{Unknowns}
-use Rattle.strike.proofs.Columns.{row_le_place, order_le, entry_of, none_moved, all_moved, next_start, column_ahead, column_moved}
+use Rattle.strike.proofs.Columns.{row_le_place, order_le, none_moved, all_moved, next_start, column_ahead, column_moved}
 use Rattle.strike.proofs.move_columns.Goals as goal
 
 pub loop-c-init : goal.loop-c-init
 loop-c-init c = (omega arith, sym (block_start_zero _), refl, none_moved _ _ _)
-
-pub packed_place-requires : goal.packed_place-requires
-packed_place-requires c =
-    let a = c.args in record {
-      order_le_max_order = c.requires.order_le_max_order.0;
-      entry = entry_of a.shape.order a.unknowns.now c.requires.unknowns c.loop-c.c c.loop-c.c (record { lower = omega arith; inside = c.loop-c-test.true });
-    }
 
 -- row 0 of the column would be at `base`
 base_le : (n j at : ℕ) → at ≡ packed_place n j j → j ≤ at
@@ -37,9 +31,8 @@ move_column-requires c =
     let n = a.shape.order in
     let size : length c.loop-c.matrix ≡ triangle n = c.loop-c.invariant.2 ∙ c.requires.order_le_max_order.1 in
     let at = first n (get_or a.unknowns.now c.loop-c.c 0) c.packed_place.result c.packed_place.ensures in record {
-      at_in_bounds = c.loop-c.invariant.0;
       ahead = rw size (column_ahead n a.unknowns.now c.requires.unknowns c.loop-c.c _ c.loop-c.to c.loop-c-test.true at c.loop-c.invariant.1);
-      rising = c.requires.unknowns.rising;
+      rising = rising_part (part_slice a.unknowns.now c.loop-c.c (length a.unknowns.now - c.loop-c.c) (omega (arith, c.loop-c.invariant.0))) c.requires.unknowns.rising;
     }
 
 -- where the next column goes
@@ -48,7 +41,7 @@ next : (n : ℕ) (unknowns : List ℕ) (c at to : ℕ)
     → c < length unknowns
     → at ≡ packed_place n (get_or unknowns c 0) (get_or unknowns c 0)
     → to ≡ block_start (length unknowns) c
-    → to + (length unknowns - c) ≡ block_start (length unknowns) (c + 1)
+    → to + length (take (length unknowns - c) (drop c unknowns)) ≡ block_start (length unknowns) (c + 1)
 next n unknowns c at to known taken e start = next_start n unknowns known c _ to taken (first n (get_or unknowns c 0) at e) start
 
 pub overflow_add-to : goal.overflow_add-to
@@ -75,9 +68,6 @@ loop-c-preserved c =
       column_moved n a.unknowns.now c.requires.unknowns c.loop-c.c _ c.loop-c.to taken at c.loop-c.invariant.1 a.matrix.now c.loop-c.matrix _
           c.loop-c.invariant.3 c.move_column.ensures,
     )
-
-pub shape_of-matrix : goal.shape_of-matrix
-shape_of-matrix c = c.loop-c.invariant.2
 
 pub returns : goal.returns
 returns c =

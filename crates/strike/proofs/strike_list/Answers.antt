@@ -3,6 +3,7 @@ use Prim.Native.Nat.{ℕ, ◌+◌, ◌≤◌}
 use native.Mathlib.Omega.{arith}
 use mathlib.Core.Path.{◌≡◌, sym, ap, ◌∙◌, subst}
 use mathlib.Core.List.{List}
+use lib.Ieee.{of_bits}
 use lib.ListN.{length, take}
 use Rattle.shape.specs.Places.{triangle}
 use Rattle.shape.proofs.Bounds.{triangle_mono}
@@ -17,17 +18,10 @@ use Rattle.strike.proofs.strike_list.Goals as goal
 together : (n : ℕ) (list : List ℕ) → rule20 n list ≡ success → length (kept list n) + length list ≡ n
 together n list h = length_kept n list (rule20_accepted n list (rw h tt))
 
-pub overflow_sub-order : goal.overflow_sub-order
-overflow_sub-order c = omega (arith, together c.args.shape.order c.args.list.now c.requires.list_value)
-
-pub slice_bounds-move_columns-end : goal.slice_bounds-move_columns-end
-slice_bounds-move_columns-end c =
-    omega (arith, ap length c.keep.ensures, together c.args.shape.order c.args.list.now c.requires.list_value)
-
 pub move_columns-size-requires : goal.move_columns-size-requires
 move_columns-size-requires c =
     let n = c.args.shape.order in
-    record { order_le_max_order = c.requires.order_le_max_order; unknowns = subst (Unknowns n) (sym c.keep.ensures) (kept_unknowns c.args.list.now n) }
+    record { order_le_max_order = c.requires.order_le_max_order; unknowns = subst (Unknowns n) (sym c.keep-unknowns.ensures) (kept_unknowns c.args.list.now n) }
 
 -- what was moved are the entries of the unknowns kept
 size_kept : (n size : ℕ) (list unknowns : List ℕ) → size ≡ triangle (length unknowns) → unknowns ≡ kept list n → size ≡ triangle (length (kept list n))
@@ -37,35 +31,16 @@ size_le : (n size : ℕ) (list unknowns : List ℕ) → size ≡ triangle (lengt
 size_le n size list unknowns e same =
     omega (arith, size_kept n size list unknowns e same, triangle_mono (length (kept list n)) n (kept_at_most list n))
 
-pub offset_bounds-matrix-size : goal.offset_bounds-matrix-size
-offset_bounds-matrix-size c =
-    omega (arith, size_le c.args.shape.order c.move_columns-size.result c.args.list.now _ c.move_columns-size.ensures.value c.keep.ensures)
-
-pub slice_bounds-clear-count : goal.slice_bounds-clear-count
-slice_bounds-clear-count c =
-    omega (
-      arith,
-      size_le c.args.shape.order c.move_columns-size.result c.args.list.now _ c.move_columns-size.ensures.value c.keep.ensures,
-      c.move_columns-size.auto,
-    )
-
-pub slice_bounds-clear-start : goal.slice_bounds-clear-start
-slice_bounds-clear-start c =
-    omega (
-      arith,
-      size_le c.args.shape.order c.move_columns-size.result c.args.list.now _ c.move_columns-size.ensures.value c.keep.ensures,
-      c.move_columns-size.auto,
-    )
-
 pub returns : goal.returns
+unfolding of_bits
 returns c =
     let a = c.args in
     let n = a.shape.order in
     let list = a.list.now in
     let m = c.move_columns-size.new.matrix in
     let size = c.move_columns-size.result in
-    struck_of list n size a.matrix.now m c.clear.new.part (size_kept n size list _ c.move_columns-size.ensures.value c.keep.ensures)
+    struck_of list n size a.matrix.now m c.fill.new.self (size_kept n size list _ c.move_columns-size.ensures.value c.keep-unknowns.ensures)
     c.move_columns-size.auto.matrix
-    (omega (arith, size_le n size list _ c.move_columns-size.ensures.value c.keep.ensures, c.move_columns-size.auto))
-    (subst (λ xs. Fresh xs n a.matrix.now (take (triangle (length xs)) m)) c.keep.ensures c.move_columns-size.ensures.fresh)
-    c.clear.ensures
+    (omega (arith, size_le n size list _ c.move_columns-size.ensures.value c.keep-unknowns.ensures, c.move_columns-size.auto))
+    (subst (λ xs. Fresh xs n a.matrix.now (take (triangle (length xs)) m)) c.keep-unknowns.ensures c.move_columns-size.ensures.fresh)
+    (c.fill.ensures.after (λ y e. e))

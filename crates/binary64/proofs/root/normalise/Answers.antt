@@ -1,23 +1,18 @@
 -- `binary64::root::normalise` meets its contract. Where the pattern is a subnormal's the fraction is the pattern itself, and its leading zeros are from 12
 -- to 63. Assumes nothing.
-use borrow.Enum.Refused.{opened}
 use mathlib.Core.Path.{◌≡◌, sym, ◌∙◌, subst}
 use mathlib.Core.Logic.{◌⊎◌, inl, inr}
-use mathlib.Core.List.{[], ◌∷◌}
 use Prim.Native.Nat.{ℕ, ◌+◌, ◌-◌, ◌*◌, ◌/◌, ◌%◌, ◌^◌, ◌≤◌, ◌<◌}
 use native.Mathlib.Nat.{lt_of_lt_of_le, mod-eq_of_lt}
 use native.Mathlib.Omega.{arith}
 use lib.Dec.{lit≤}
 use lib.Count.{count_leading_zeros}
-use types.Run.{OneOf}
-use denote.Enum.Declared.{tag_of}
 use Rattle.binary64.specs.declared.kinds.Kind.TheVariants.{Subnormal, Normal}
 use Rattle.binary64.specs.Kinds.{kind_of_bits}
 use Rattle.binary64.specs.RootSteps.{PositiveFinite, Normalised}
-use Rattle.binary64.specs.contracts.kinds.Kind.{the_type}
-use Rattle.binary64.proofs.KindLaws.{other_arm}
 use Rattle.binary64.proofs.Normalising.{shift, zeros_range, subnormal_range, normal_range, normalised_normal, normalised_subnormal}
 use Rattle.binary64.proofs.root.normalise.Goals as goal
+use Rattle.binary64.proofs.root.normalise.Goals.{After-from-shift}
 
 module _ (p : ℕ) (pre : PositiveFinite p) where
   -- the first arm
@@ -38,26 +33,24 @@ module _ (p : ℕ) (pre : PositiveFinite p) where
         (subst (λ (y : ℕ). Normalised p y (1076 - shift p)) (sym (mod-eq_of_lt (lt_of_lt_of_le n.significand_lt (lit≤ tt)))) n)
 
   -- the second
-  not_subnormal : OneOf (0 ∷ 2 ∷ 3 ∷ 4 ∷ []) (tag_of the_type (kind_of_bits p)) → kind_of_bits p ≡ Normal
+  not_subnormal : ¬ (kind_of_bits p ≡ Subnormal) → kind_of_bits p ≡ Normal
   not_subnormal h = go pre.subnormal_or_normal
     where
       go : (kind_of_bits p ≡ Subnormal) ⊎ (kind_of_bits p ≡ Normal) → kind_of_bits p ≡ Normal
-      go (inl e) = absurd (other_arm (0 ∷ 2 ∷ 3 ∷ 4 ∷ []) (kind_of_bits p) Subnormal tt h e)
+      go (inl e) = absurd (h e)
       go (inr e) = e
 
-  normal : OneOf (0 ∷ 2 ∷ 3 ∷ 4 ∷ []) (tag_of the_type (kind_of_bits p)) → Normalised p (p % 2 ^ 52 + 2 ^ 52) (p / 2 ^ 52 + 1075)
+  normal : ¬ (kind_of_bits p ≡ Subnormal) → Normalised p (p % 2 ^ 52 + 2 ^ 52) (p / 2 ^ 52 + 1075)
   normal h =
       let range : (2 ^ 52 ≤ p) × (p < 2047 * 2 ^ 52) = normal_range p pre.unsigned (not_subnormal h) in
       normalised_normal p range.1 (λ e. omega arith)
 
-subnormal : (c : goal.In-Subnormal) → kind_of_bits c.args.bits ≡ Subnormal
-subnormal c = sym c.kind_of_bits.ensures ∙ c.in-Subnormal.is
+module _ (c : After-from-shift) where
+  subnormal : kind_of_bits c.args.bits ≡ Subnormal
+  subnormal = sym c.kind_of_bits.ensures ∙ c.in-Subnormal.is
 
-shift_range : (c : goal.In-Subnormal) → (12 ≤ count_leading_zeros 64 (c.args.bits % 2 ^ 52)) × (count_leading_zeros 64 (c.args.bits % 2 ^ 52) ≤ 63)
-shift_range c = zeros c.args.bits c.requires (subnormal c)
-
-pub overflow_cast-shift : goal.overflow_cast-shift
-overflow_cast-shift c = omega (arith, shift_range c)
+  shift_range : (12 ≤ c.from-shift.result) × (c.from-shift.result ≤ 63)
+  shift_range = rw c.from-shift.ensures (zeros c.args.bits c.requires subnormal)
 
 pub overflow_sub-shift : goal.overflow_sub-shift
 overflow_sub-shift c = omega (arith, shift_range c)
@@ -69,9 +62,7 @@ pub overflow_sub-result : goal.overflow_sub-result
 overflow_sub-result c = omega (arith, shift_range c)
 
 pub returns-in-Subnormal : goal.returns-in-Subnormal
-returns-in-Subnormal c = shifted c.args.bits c.requires (subnormal c)
+returns-in-Subnormal c = rw c.from-shift.ensures (shifted c.args.bits c.requires (subnormal c))
 
 pub returns-in_default : goal.returns-in_default
-returns-in_default c =
-    normal c.args.bits c.requires
-    (subst (λ κ. OneOf (0 ∷ 2 ∷ 3 ∷ 4 ∷ []) (tag_of the_type κ)) c.kind_of_bits.ensures (opened c.in_default.in_default-own.keys2))
+returns-in_default c = normal c.args.bits c.requires (λ e. c.in_default.not-Subnormal (c.kind_of_bits.ensures ∙ e))

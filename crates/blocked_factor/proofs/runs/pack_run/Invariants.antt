@@ -1,5 +1,5 @@
--- `blocked_factor::runs::pack_run` meets its contract. The invariant of its loop: the first k columns are packed. Assumes nothing.
-use Prim.Native.Nat.{◌-◌, ◌≤◌}
+-- `blocked_factor::runs::pack_run` meets its contract. The invariant: the first k columns are packed. Assumes nothing.
+use Prim.Native.Nat.{◌≤◌}
 use mathlib.Core.Path.{◌≡◌}
 use lib.ListN.{length}
 use Rattle.shape.specs.Places.{block_of}
@@ -11,8 +11,4 @@ invariant-loop-k l =
     (l.k ≤ l.run.columns)
     × (block_of l.run.block l.k ≡ l.k)
     × (length l.panel ≡ length l.initial.panel)
-    × (l.shape.order ≡ l.run.order)
     × RunPacked l.panel l.lanes l.m l.run.start l.run.order l.run.block l.i l.k l.g
-
-abbrev pub decreases-loop-k : goal.decreases-loop-k
-decreases-loop-k l = l.run.columns - l.k

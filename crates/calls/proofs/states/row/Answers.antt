@@ -4,14 +4,10 @@ use borrow.Author.Tests.{eq-eqb, ne_eqb}
 use Rattle.calls.specs.States.{look_up}
 use Rattle.calls.proofs.states.row.Goals as goal
 
-pub returns-then-state-state_number : goal.returns-then-state-state_number
+pub returns-then-state-from : goal.returns-then-state-from
 unfolding look_up
-returns-then-state-state_number c =
-    let args = c.args in
-    rw (← c.state_number.ensures, eq-eqb args.state c.state_number.result c.if-state-state_number.true) refl
+returns-then-state-from c = rw (← c.from.ensures, eq-eqb c.args.state c.from.result c.if-state-from.true) refl
 
-pub returns-else-state-state_number : goal.returns-else-state-state_number
+pub returns-else-state-from : goal.returns-else-state-from
 unfolding look_up
-returns-else-state-state_number c =
-    let args = c.args in
-    rw (← c.state_number.ensures, ne_eqb args.state c.state_number.result c.if-state-state_number.false) refl
+returns-else-state-from c = rw (← c.from.ensures, ne_eqb c.args.state c.from.result c.if-state-from.false) refl

@@ -5,7 +5,6 @@ use native.Mathlib.Omega.{arith}
 use mathlib.Core.Path.{◌≡◌, refl, sym, ap, ◌∙◌, subst}
 use mathlib.Core.Bool.{true, false}
 use mathlib.Core.List.{List}
-use borrow.Author.Tests.{not-true, not-false}
 use lib.Dec.{T}
 use lib.ListN.{length, get_or}
 use lib.Ieee.{Float, nan, of_bits}
@@ -75,9 +74,9 @@ returns-then-not-matrix-p c =
     let place = place_of c.args.layout n c.args.shape.block in
     let matrix = c.args.matrix.now in
     let here : positive (get_or matrix (place c.loop-j.j c.loop-j.j) nan) ≡ false =
-    sym (ap (λ (p : ℕ). positive (get_or matrix p nan)) c.place_of-p.ensures) ∙ not-true _ c.if-not-matrix-p.true-raw
+    sym (ap (λ (p : ℕ). positive (get_or matrix p nan)) c.place_of-p.ensures) ∙ c.if-not-matrix-p.true
     in
-    c.refusal.ensures ∙ sym (positive_found place matrix c.args.k c.loop-j.j c.loop-j.invariant.0 c.loop-j.invariant.2 n c.loop-j-test.true here)
+    sym (positive_found place matrix c.args.k c.loop-j.j c.loop-j.invariant.0 c.loop-j.invariant.2 n c.loop-j-test.true here)
 
 pub loop-j-preserved : goal.loop-j-preserved
 unfolding positive of_bits
@@ -85,7 +84,7 @@ loop-j-preserved c =
     let place = place_of c.args.layout c.args.shape.order c.args.shape.block in
     let matrix = c.args.matrix.now in
     let here : positive (get_or matrix (place c.loop-j.j c.loop-j.j) nan) ≡ true =
-    sym (ap (λ (p : ℕ). positive (get_or matrix p nan)) c.place_of-p.ensures) ∙ not-false _ c.if-not-matrix-p.false-raw
+    sym (ap (λ (p : ℕ). positive (get_or matrix p nan)) c.place_of-p.ensures) ∙ c.if-not-matrix-p.false
     in
     (omega arith, omega arith, positive_next place matrix c.args.k c.loop-j.j c.loop-j.invariant.0 c.loop-j.invariant.2 here)
 
@@ -94,4 +93,4 @@ unfolding rule9
 returns c =
     let shape = c.args.shape in
     let end : c.loop-j.j ≡ shape.order = omega arith in
-    c.refusal-2.ensures ∙ sym (rw end at c.loop-j.invariant.2)
+    sym (rw end at c.loop-j.invariant.2)

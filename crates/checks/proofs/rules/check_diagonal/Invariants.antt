@@ -16,6 +16,3 @@ from place matrix k c = positive_at place matrix (k + c)
 abbrev pub invariant-loop-j : goal.invariant-loop-j
 invariant-loop-j l =
     (l.k ≤ l.j) × (l.j ≤ l.shape.order) × (lowest_refusal (from (place_of l.layout l.shape.order l.shape.block) l.matrix l.k) (l.j - l.k) ≡ success)
-
-abbrev pub decreases-loop-j : goal.decreases-loop-j
-decreases-loop-j l = l.shape.order - l.j

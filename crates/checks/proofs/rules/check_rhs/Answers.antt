@@ -2,7 +2,7 @@
 -- bounded. Assumes nothing.
 use Prim.Native.Nat.{◌*◌, ◌≤◌}
 use native.Mathlib.Omega.{arith}
-use mathlib.Core.Path.{◌≡◌}
+use mathlib.Core.Path.{◌≡◌, refl}
 use mathlib.Core.Bool.{true, false}
 use borrow.Author.Tests.{ltb-false, eq-eqb, ne_eqb}
 use lib.Dec.{ltb}
@@ -17,7 +17,7 @@ unfolding first_refusal rule5 rule6
 returns-then-not-rhs_in_bounds c =
     let args = c.args in
     let e5 : ltb max_rhs args.m ≡ true = cc (not_leb args.m max_rhs) in
-    rw e5 c.refusal.ensures
+    rw e5 refl
 
 pub overflow_mul-shape : goal.overflow_mul-shape
 overflow_mul-shape c =
@@ -31,11 +31,11 @@ unfolding first_refusal rule5 rule6
 returns-then-rhs-shape c =
     let args = c.args in
     let e5 : ltb max_rhs args.m ≡ false = cc (not_leb args.m max_rhs) in
-    rw (e5, ne_eqb args.rhs (args.shape.order * args.m) c.if-rhs-shape.true) c.refusal-then-rhs-shape.ensures
+    rw (e5, ne_eqb args.rhs (args.shape.order * args.m) c.if-rhs-shape.true) refl
 
 pub returns : goal.returns
 unfolding first_refusal rule5 rule6
 returns c =
     let args = c.args in
     let e5 : ltb max_rhs args.m ≡ false = cc (not_leb args.m max_rhs) in
-    rw (e5, eq-eqb args.rhs (args.shape.order * args.m) c.if-rhs-shape.false) c.refusal-2.ensures
+    rw (e5, eq-eqb args.rhs (args.shape.order * args.m) c.if-rhs-shape.false) refl

@@ -3,7 +3,6 @@
 use Prim.Native.Nat.{ℕ}
 use native.Mathlib.Omega.{arith}
 use mathlib.Core.Path.{◌≡◌, sym, ◌∙◌}
-use mathlib.Core.Bool.{true, false}
 use mathlib.Core.List.{List, [], ◌∷◌, ◌++◌}
 use lib.ListN.{length}
 use lib.Ieee.{Float}
@@ -12,9 +11,9 @@ use Rattle.calls.specs.declared.Layout.{Layout}
 use Rattle.calls.specs.declared.Verdict.{Verdict}
 use Rattle.calls.specs.declared.Call.TheVariants.{Solver}
 use Rattle.calls.specs.Triangles.{place_of}
-use Rattle.calls.specs.Refusals.{accepted, first_refusal, finite_rule, rule5, rule6, rule7, rule8, rule9}
+use Rattle.calls.specs.Refusals.{success, first_refusal, finite_rule, rule5, rule6, rule7, rule8, rule9}
 use Rattle.calls.specs.Calls.{solver_checks}
-use Rattle.calls.proofs.Judging.{refused_of, accepted_of, first_decided, first_continued}
+use Rattle.calls.proofs.OutcomeLaws.{passed_on, decided, continued}
 use Rattle.calls.proofs.Checks.{size_rules}
 use Rattle.calls.proofs.CheckLaws.{finite_alone, rule9_alone, SizesAccepted, sizes_accepted}
 use Rattle.checks.proofs.rules.check_solver.Goals as goal
@@ -40,84 +39,71 @@ module _ (layout : Layout) (shape : Shape) (m : ℕ) (matrix rhs : List Float) (
   abbrev diagonal : List Verdict
   diagonal = rule9 (place_of layout shape.order shape.block) 0 shape.order matrix ∷ []
 
-  settled : (v : Verdict) → v ≡ first_refusal sizes → accepted v ≡ true → SizesAccepted (Solver layout) shape (length matrix) work
-  settled v e passed =
-      let all_passed : accepted (first_refusal sizes) ≡ true = rw (← e) passed in
-      (sizes_accepted (Solver layout) shape (length matrix) work [] (rw all_passed tt)).0
+  settled : success ≡ first_refusal sizes → SizesAccepted (Solver layout) shape (length matrix) work
+  settled e = (sizes_accepted (Solver layout) shape (length matrix) work [] (rw (← e) tt)).0
 
   -- the parts that have passed: of the sizes, of the right-hand sides' sizes, of the matrix, of the right-hand sides
-  past_sizes : (v : Verdict) → v ≡ first_refusal sizes → accepted v ≡ true → judgement ≡ first_refusal (rhs_sizes ++ matrix_values ++ rhs_values ++ diagonal)
+  past_sizes : success ≡ first_refusal sizes → judgement ≡ first_refusal (rhs_sizes ++ matrix_values ++ rhs_values ++ diagonal)
   unfolding solver_checks
-  past_sizes v e passed = first_continued sizes (rhs_sizes ++ matrix_values ++ rhs_values ++ diagonal) v e passed
+  past_sizes e = continued sizes (rhs_sizes ++ matrix_values ++ rhs_values ++ diagonal) e
 
-  past_rhs_sizes :
-      judgement ≡ first_refusal (rhs_sizes ++ matrix_values ++ rhs_values ++ diagonal) →
-      (v : Verdict) → v ≡ first_refusal rhs_sizes → accepted v ≡ true → judgement ≡ first_refusal (matrix_values ++ rhs_values ++ diagonal)
-  past_rhs_sizes before v e passed = before ∙ first_continued rhs_sizes (matrix_values ++ rhs_values ++ diagonal) v e passed
+  past_rhs_sizes : success ≡ first_refusal sizes → success ≡ first_refusal rhs_sizes → judgement ≡ first_refusal (matrix_values ++ rhs_values ++ diagonal)
+  past_rhs_sizes s e = past_sizes s ∙ continued rhs_sizes (matrix_values ++ rhs_values ++ diagonal) e
 
   past_matrix_values :
-      judgement ≡ first_refusal (matrix_values ++ rhs_values ++ diagonal) →
-      (v : Verdict) → v ≡ finite_rule 7 matrix → accepted v ≡ true → judgement ≡ first_refusal (rhs_values ++ diagonal)
-  past_matrix_values before v e passed = before ∙ first_continued matrix_values (rhs_values ++ diagonal) v (e ∙ sym (finite_alone 6 matrix)) passed
+      success ≡ first_refusal sizes → success ≡ first_refusal rhs_sizes → success ≡ finite_rule 7 matrix → judgement ≡ first_refusal (rhs_values ++ diagonal)
+  past_matrix_values s r e = past_rhs_sizes s r ∙ continued matrix_values (rhs_values ++ diagonal) (e ∙ sym (finite_alone 6 matrix))
 
   past_rhs_values :
-      judgement ≡ first_refusal (rhs_values ++ diagonal) →
-      (v : Verdict) → v ≡ finite_rule 8 rhs → accepted v ≡ true → judgement ≡ first_refusal diagonal
-  past_rhs_values before v e passed = before ∙ first_continued rhs_values diagonal v (e ∙ sym (finite_alone 7 rhs)) passed
+      success ≡ first_refusal sizes → success ≡ first_refusal rhs_sizes → success ≡ finite_rule 7 matrix → success ≡ finite_rule 8 rhs →
+      judgement ≡ first_refusal diagonal
+  past_rhs_values s r v e = past_matrix_values s r v ∙ continued rhs_values diagonal (e ∙ sym (finite_alone 7 rhs))
 
-  -- a part that has refused
-  by_sizes : (v : Verdict) → v ≡ first_refusal sizes → accepted v ≡ false → v ≡ judgement
-  unfolding solver_checks
-  by_sizes v e refused = first_decided sizes (rhs_sizes ++ matrix_values ++ rhs_values ++ diagonal) v e refused
+-- ---- the goals
 
--- ---- the needs
-
-pub returns-then-not-accepted : goal.returns-then-not-accepted
-returns-then-not-accepted c =
+pub returns-in_err-check_sizes : goal.returns-in_err-check_sizes
+unfolding solver_checks
+returns-in_err-check_sizes c =
     let a = c.args in
-    by_sizes a.layout a.shape a.m a.matrix.now a.rhs.now a.work c.check_sizes-sizes.result c.check_sizes-sizes.ensures
-    (refused_of c.accepted.result c.check_sizes-sizes.result c.accepted.ensures c.if-not-accepted.true-raw)
+    let x = a.matrix.now in
+    let y = a.rhs.now in
+    rw (passed_on c.from_residual.result _ c.from_residual.ensures.1)
+    (decided (sizes a.layout a.shape a.m x y a.work) (rhs_sizes a.layout a.shape a.m x y a.work ++ matrix_values a.layout a.shape a.m x y a.work ++ rhs_values a.layout a.shape a.m x y a.work ++ diagonal a.layout a.shape a.m x y a.work) _ c.in_err-check_sizes.ensures)
 
-pub check_rhs-rhs_sizes-requires : goal.check_rhs-rhs_sizes-requires
-check_rhs-rhs_sizes-requires c =
-    let a = c.args in
-    (settled a.layout a.shape a.m a.matrix.now a.rhs.now a.work c.check_sizes-sizes.result c.check_sizes-sizes.ensures
-    (accepted_of c.accepted.result c.check_sizes-sizes.result c.accepted.ensures c.if-not-accepted.false-raw)).order
+pub check_rhs-requires : goal.check_rhs-requires
+check_rhs-requires c = let a = c.args in (settled a.layout a.shape a.m a.matrix.now a.rhs.now a.work c.in_ok-check_sizes.ensures).order
 
-pub returns-then-not-accepted-2 : goal.returns-then-not-accepted-2
-returns-then-not-accepted-2 c =
+pub returns-in_err-check_rhs : goal.returns-in_err-check_rhs
+returns-in_err-check_rhs c =
     let a = c.args in
-    first_decided (rhs_sizes a.layout a.shape a.m a.matrix.now a.rhs.now a.work) ((matrix_values a.layout a.shape a.m a.matrix.now a.rhs.now a.work) ++ (rhs_values a.layout a.shape a.m a.matrix.now a.rhs.now a.work) ++ (diagonal a.layout a.shape a.m a.matrix.now a.rhs.now a.work)) c.check_rhs-rhs_sizes.result c.check_rhs-rhs_sizes.ensures
-    (refused_of c.accepted-2.result c.check_rhs-rhs_sizes.result c.accepted-2.ensures c.if-not-accepted-2.true-raw)
-    ∙ sym (past_sizes a.layout a.shape a.m a.matrix.now a.rhs.now a.work c.check_sizes-sizes.result c.check_sizes-sizes.ensures
-    (accepted_of c.accepted.result c.check_sizes-sizes.result c.accepted.ensures c.if-not-accepted.false-raw))
+    let x = a.matrix.now in
+    let y = a.rhs.now in
+    rw (passed_on c.from_residual-in_err-check_rhs.result _ c.from_residual-in_err-check_rhs.ensures.1)
+    (decided (rhs_sizes a.layout a.shape a.m x y a.work) (matrix_values a.layout a.shape a.m x y a.work ++ rhs_values a.layout a.shape a.m x y a.work ++ diagonal a.layout a.shape a.m x y a.work) _ c.in_err-check_rhs.ensures
+    ∙ sym (past_sizes a.layout a.shape a.m x y a.work c.in_ok-check_sizes.ensures))
 
-pub returns-then-not-accepted-3 : goal.returns-then-not-accepted-3
-returns-then-not-accepted-3 c =
+pub returns-in_err-check_finite : goal.returns-in_err-check_finite
+returns-in_err-check_finite c =
     let a = c.args in
-    first_decided (matrix_values a.layout a.shape a.m a.matrix.now a.rhs.now a.work) ((rhs_values a.layout a.shape a.m a.matrix.now a.rhs.now a.work) ++ (diagonal a.layout a.shape a.m a.matrix.now a.rhs.now a.work)) c.check_finite-matrix_values.result (c.check_finite-matrix_values.ensures ∙ sym (finite_alone 6 a.matrix.now))
-    (refused_of c.accepted-3.result c.check_finite-matrix_values.result c.accepted-3.ensures c.if-not-accepted-3.true-raw)
-    ∙ sym (past_rhs_sizes a.layout a.shape a.m a.matrix.now a.rhs.now a.work (past_sizes a.layout a.shape a.m a.matrix.now a.rhs.now a.work c.check_sizes-sizes.result c.check_sizes-sizes.ensures
-    (accepted_of c.accepted.result c.check_sizes-sizes.result c.accepted.ensures c.if-not-accepted.false-raw)) c.check_rhs-rhs_sizes.result c.check_rhs-rhs_sizes.ensures
-    (accepted_of c.accepted-2.result c.check_rhs-rhs_sizes.result c.accepted-2.ensures c.if-not-accepted-2.false-raw))
+    let x = a.matrix.now in
+    let y = a.rhs.now in
+    rw (passed_on c.from_residual-in_err-check_finite.result _ c.from_residual-in_err-check_finite.ensures.1)
+    (decided (matrix_values a.layout a.shape a.m x y a.work) (rhs_values a.layout a.shape a.m x y a.work ++ diagonal a.layout a.shape a.m x y a.work) _ (c.in_err-check_finite.ensures ∙ sym (finite_alone 6 x))
+    ∙ sym (past_rhs_sizes a.layout a.shape a.m x y a.work c.in_ok-check_sizes.ensures c.in_ok-check_rhs.ensures))
 
-pub returns-then-not-accepted-4 : goal.returns-then-not-accepted-4
-returns-then-not-accepted-4 c =
+pub returns-in_err-check_finite-2 : goal.returns-in_err-check_finite-2
+returns-in_err-check_finite-2 c =
     let a = c.args in
-    first_decided (rhs_values a.layout a.shape a.m a.matrix.now a.rhs.now a.work) ((diagonal a.layout a.shape a.m a.matrix.now a.rhs.now a.work)) c.check_finite-rhs_values.result (c.check_finite-rhs_values.ensures ∙ sym (finite_alone 7 a.rhs.now))
-    (refused_of c.accepted-4.result c.check_finite-rhs_values.result c.accepted-4.ensures c.if-not-accepted-4.true-raw)
-    ∙ sym (past_matrix_values a.layout a.shape a.m a.matrix.now a.rhs.now a.work (past_rhs_sizes a.layout a.shape a.m a.matrix.now a.rhs.now a.work (past_sizes a.layout a.shape a.m a.matrix.now a.rhs.now a.work c.check_sizes-sizes.result c.check_sizes-sizes.ensures
-    (accepted_of c.accepted.result c.check_sizes-sizes.result c.accepted.ensures c.if-not-accepted.false-raw)) c.check_rhs-rhs_sizes.result c.check_rhs-rhs_sizes.ensures
-    (accepted_of c.accepted-2.result c.check_rhs-rhs_sizes.result c.accepted-2.ensures c.if-not-accepted-2.false-raw)) c.check_finite-matrix_values.result c.check_finite-matrix_values.ensures
-    (accepted_of c.accepted-3.result c.check_finite-matrix_values.result c.accepted-3.ensures c.if-not-accepted-3.false-raw))
+    let x = a.matrix.now in
+    let y = a.rhs.now in
+    rw (passed_on c.from_residual-in_err-check_finite-2.result _ c.from_residual-in_err-check_finite-2.ensures.1)
+    (decided (rhs_values a.layout a.shape a.m x y a.work) (diagonal a.layout a.shape a.m x y a.work) _ (c.in_err-check_finite-2.ensures ∙ sym (finite_alone 7 y))
+    ∙ sym (past_matrix_values a.layout a.shape a.m x y a.work c.in_ok-check_sizes.ensures c.in_ok-check_rhs.ensures c.in_ok-check_finite.ensures))
 
 pub check_diagonal-requires : goal.check_diagonal-requires
 check_diagonal-requires c =
     let a = c.args in
-    let known =
-    settled a.layout a.shape a.m a.matrix.now a.rhs.now a.work c.check_sizes-sizes.result c.check_sizes-sizes.ensures
-    (accepted_of c.accepted.result c.check_sizes-sizes.result c.accepted.ensures c.if-not-accepted.false-raw)
-    in
+    let known = settled a.layout a.shape a.m a.matrix.now a.rhs.now a.work c.in_ok-check_sizes.ensures in
     record { order_le_max_order = known.order; block_nonzero = known.block_low; k_le_order = omega arith; matrix_len = known.matrix }
 
 pub returns : goal.returns
@@ -126,8 +112,4 @@ returns c =
     let n = a.shape.order in
     c.check_diagonal.ensures
     ∙ sym (rule9_alone (place_of a.layout n a.shape.block) 0 n a.matrix.now)
-    ∙ sym (past_rhs_values a.layout a.shape a.m a.matrix.now a.rhs.now a.work (past_matrix_values a.layout a.shape a.m a.matrix.now a.rhs.now a.work (past_rhs_sizes a.layout a.shape a.m a.matrix.now a.rhs.now a.work (past_sizes a.layout a.shape a.m a.matrix.now a.rhs.now a.work c.check_sizes-sizes.result c.check_sizes-sizes.ensures
-    (accepted_of c.accepted.result c.check_sizes-sizes.result c.accepted.ensures c.if-not-accepted.false-raw)) c.check_rhs-rhs_sizes.result c.check_rhs-rhs_sizes.ensures
-    (accepted_of c.accepted-2.result c.check_rhs-rhs_sizes.result c.accepted-2.ensures c.if-not-accepted-2.false-raw)) c.check_finite-matrix_values.result c.check_finite-matrix_values.ensures
-    (accepted_of c.accepted-3.result c.check_finite-matrix_values.result c.accepted-3.ensures c.if-not-accepted-3.false-raw)) c.check_finite-rhs_values.result c.check_finite-rhs_values.ensures
-    (accepted_of c.accepted-4.result c.check_finite-rhs_values.result c.accepted-4.ensures c.if-not-accepted-4.false-raw))
+    ∙ sym (past_rhs_values a.layout a.shape a.m a.matrix.now a.rhs.now a.work c.in_ok-check_sizes.ensures c.in_ok-check_rhs.ensures c.in_ok-check_finite.ensures c.in_ok-check_finite-2.ensures)

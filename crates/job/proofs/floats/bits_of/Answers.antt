@@ -1,17 +1,12 @@
 -- `job::floats::bits_of` meets its contract, by the kind of the value. Assumes nothing.
-use borrow.Enum.Refused.{opened}
 use mathlib.Core.Path.{sym, ◌∙◌, subst}
-use mathlib.Core.List.{[], ◌∷◌}
 use lib.Dec.{T}
-use Rattle.binary64.specs.declared.kinds.Kind.TheVariants.{NaN}
-use Rattle.binary64.proofs.KindLaws.{other_arm}
 use Rattle.binary64.proofs.Values.{number_of_kind}
 use Rattle.job.proofs.Patterns.{nan_bits_lem}
 use Rattle.job.proofs.floats.bits_of.Goals as goal
 
 pub float_to_bits-result : goal.float_to_bits-result
-float_to_bits-result c =
-    number_of_kind c.args.v (λ e. other_arm (0 ∷ 1 ∷ 2 ∷ 3 ∷ []) c.kind_of.result NaN tt (opened c.in_default.in_default-own.keys2) (c.kind_of.ensures ∙ e))
+float_to_bits-result c = number_of_kind c.args.v (λ e. c.in_default.not-NaN (c.kind_of.ensures ∙ e))
 
 pub returns-in-NaN : goal.returns-in-NaN
 returns-in-NaN c =

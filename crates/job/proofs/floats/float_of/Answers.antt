@@ -1,16 +1,11 @@
 -- `job::floats::float_of` meets its contract, by the kind of the pattern. Assumes nothing.
-use borrow.Enum.Refused.{opened}
 use mathlib.Core.Path.{sym, ◌∙◌}
-use mathlib.Core.List.{[], ◌∷◌}
 use native.Mathlib.Omega.{arith}
-use Rattle.binary64.specs.declared.kinds.Kind.TheVariants.{NaN}
-use Rattle.binary64.proofs.KindLaws.{other_arm}
 use Rattle.job.proofs.Patterns.{pattern_nan, pattern_number}
 use Rattle.job.proofs.floats.float_of.Goals as goal
 
 pub float_from_bits-result : goal.float_from_bits-result
-float_from_bits-result c =
-    pattern_number c.args.bits (omega arith) (λ e. other_arm (0 ∷ 1 ∷ 2 ∷ 3 ∷ []) c.kind_of_bits.result NaN tt (opened c.in_default.in_default-own.keys2) (c.kind_of_bits.ensures ∙ e))
+float_from_bits-result c = pattern_number c.args.bits (omega arith) (λ e. c.in_default.not-NaN (c.kind_of_bits.ensures ∙ e))
 
 pub returns-in-NaN : goal.returns-in-NaN
 returns-in-NaN c =

@@ -10,10 +10,10 @@ loop-k-init c = record { kept = sym c.requires; within = omega arith; front = re
 pub loop-k-preserved : goal.loop-k-preserved
 loop-k-preserved c =
     let a = c.args in
-    floats_turn a.bits.now c.loop-k.out c.loop-k.k c.float_of.result c.loop-k-test.true c.float_of.ensures c.loop-k.invariant
+    floats_turn a.bits.now c.loop-k.out c.loop-k.k c.float_of.result (omega arith) c.float_of.ensures c.loop-k.invariant
 
 pub shape_of-out : goal.shape_of-out
 shape_of-out c = c.loop-k.invariant.kept ∙ c.requires
 
 pub returns : goal.returns
-returns c = floats_all c.args.bits.now c.loop-k.out c.loop-k.k c.loop-k-test.false c.loop-k.invariant
+returns c = floats_all c.args.bits.now c.loop-k.out c.loop-k.k (omega arith) c.loop-k.invariant

@@ -1,11 +1,6 @@
 -- `job::floats::floats_of` meets its contract. The loop's invariant: the first k values are there. Assumes nothing.
-use Prim.Native.Nat.{◌-◌}
-use lib.ListN.{length}
 use Rattle.job.proofs.Patterns.{FloatsTo}
 use Rattle.job.proofs.floats.floats_of.Given as goal
 
 abbrev pub invariant-loop-k : goal.invariant-loop-k
 invariant-loop-k l = FloatsTo l.bits l.out l.k
-
-abbrev pub decreases-loop-k : goal.decreases-loop-k
-decreases-loop-k l = length l.bits - l.k

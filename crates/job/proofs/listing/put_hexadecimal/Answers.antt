@@ -1,33 +1,19 @@
 -- `job::listing::put_hexadecimal` meets its contract. The loop's invariant: the first i digits are written. Assumes nothing.
 use native.Mathlib.Omega.{arith}
-use Rattle.job.proofs.Texts.{hex_turn, length_hex, hex_start, hex_done}
+use Rattle.text.proofs.Texts.{puts_as, room_left}
+use Rattle.job.proofs.Texts.{hex_none, hex_turn, length_hex, hex_all}
 use Rattle.job.proofs.listing.put_hexadecimal.Goals as goal
 
 pub loop-i-init : goal.loop-i-init
-loop-i-init c = (omega arith, hex_start c.args.out.now c.args.at c.bits_of-bits.result)
+loop-i-init c = hex_none c.bits_of-bits.result c.args.writer.now
 
-pub bounds-out-at : goal.bounds-out-at
-bounds-out-at c =
-    let bits = c.bits_of-bits.result in
-    omega (arith, length_hex c.args.out.now c.loop-i.out c.args.at bits c.loop-i.i c.requires c.loop-i.invariant.0 c.loop-i.invariant.1)
+pub put_byte-requires : goal.put_byte-requires
+put_byte-requires c =
+    let room = room_left 1 (omega (arith, length_hex c.bits_of-bits.result c.loop-i.i)) c.loop-i.invariant in
+    omega arith
 
 pub loop-i-preserved : goal.loop-i-preserved
-loop-i-preserved c =
-    let bits = c.bits_of-bits.result in (
-      omega arith,
-      hex_turn c.args.out.now c.loop-i.out c.args.at bits c.loop-i.i c.hex_digit.result c.requires c.loop-i-test.true
-          c.loop-i.invariant.1 c.hex_digit.ensures,
-    )
-
-pub shape_of-out : goal.shape_of-out
-shape_of-out c =
-    let a = c.args in
-    let pre = c.requires in
-    length_hex a.out.now c.loop-i.out a.at c.bits_of-bits.result c.loop-i.i (pre) c.loop-i.invariant.0
-    c.loop-i.invariant.1
+loop-i-preserved c = hex_turn c.bits_of-bits.result c.loop-i.i c.hex_digit.result (omega arith) (omega arith) c.loop-i.invariant c.hex_digit.ensures c.put_byte.ensures
 
 pub returns : goal.returns
-returns c =
-    let a = c.args in
-    hex_done a.out.now c.loop-i.out a.at c.bits_of-bits.result c.loop-i.i a.v
-    c.bits_of-bits.ensures c.loop-i.invariant.0 c.loop-i-test.false c.loop-i.invariant.1
+returns c = puts_as (hex_all c.bits_of-bits.result c.loop-i.i c.args.v c.bits_of-bits.ensures (omega arith)) c.loop-i.invariant

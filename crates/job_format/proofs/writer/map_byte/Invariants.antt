@@ -5,6 +5,3 @@ use Rattle.job_format.proofs.writer.map_byte.Given as goal
 
 abbrev pub invariant-loop-k : goal.invariant-loop-k
 invariant-loop-k l = BitsDown (stands l.matrix) l.first 8 l.byte l.k
-
-abbrev pub decreases-loop-k : goal.decreases-loop-k
-decreases-loop-k l = l.k

@@ -1,13 +1,7 @@
--- `job_format::writer::put_values` meets its contract. The loop's invariant: the bytes of the first k values are written. Assumes nothing.
-use Prim.Native.Nat.{◌-◌, ◌≤◌}
-use mathlib.Core.Path.{◌≡◌}
-use lib.ListN.{length}
-use Rattle.text.specs.Writing.{Written}
+-- `job_format::writer::put_values` meets its contract. The loop's invariant: the bytes of the first values are written. Assumes nothing.
+use Rattle.text.specs.Writing.{Puts}
 use Rattle.job_format.proofs.JobBytes.{values_to}
 use Rattle.job_format.proofs.writer.put_values.Given as goal
 
-abbrev pub invariant-loop-k : goal.invariant-loop-k
-invariant-loop-k l = (l.k ≤ length l.values) × (length l.out ≡ length l.initial.out) × Written l.at (values_to l.zeros l.values l.k) l.initial.out l.next l.out
-
-abbrev pub decreases-loop-k : goal.decreases-loop-k
-decreases-loop-k l = length l.values - l.k
+abbrev pub invariant-loop-bits : goal.invariant-loop-bits
+invariant-loop-bits l = Puts (values_to l.zeros l.values l.bits-index) l.fn.writer l.writer

@@ -4,10 +4,10 @@ use lib.ListN.{get_or-eq_default}
 use Rattle.job_format.specs.Rewriting.{stands}
 use Rattle.job_format.proofs.writer.stands.Goals as goal
 
-pub returns-then-p-matrix : goal.returns-then-p-matrix
+pub returns-in-Some : goal.returns-in-Some
 unfolding stands
-returns-then-p-matrix c = refl
+returns-in-Some c = let e = c.in-Some.ensures.lookup.3.1 0 in rw (← e) refl
 
-pub returns : goal.returns
+pub returns-in-None : goal.returns-in-None
 unfolding stands
-returns c = rw (get_or-eq_default c.args.matrix.now 0 c.if-p-matrix.false) refl
+returns-in-None c = rw (get_or-eq_default c.args.matrix.now 0 c.in-None.ensures.lookup.3) refl

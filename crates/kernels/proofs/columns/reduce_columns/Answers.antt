@@ -1,7 +1,7 @@
 -- `kernels::columns::reduce_columns` meets its contract. The invariant of its loop: the products of the last k rows are subtracted. Assumes nothing.
 use Prim.Native.Nat.{◌-◌}
 use native.Mathlib.Omega.{arith}
-use mathlib.Core.Path.{◌≡◌, refl, sym, ap, ◌∙◌}
+use mathlib.Core.Path.{sym, ap, ◌∙◌}
 use lib.ListN.{get_or}
 use lib.Ieee.{Float, nan, binary64, sub, mul}
 use Rattle.shape.specs.Places.{blocked_place}
@@ -10,22 +10,6 @@ use Rattle.kernels.proofs.columns.reduce_columns.Goals as goal
 
 pub loop-k-init : goal.loop-k-init
 loop-k-init c = (omega arith, λ j p. sym (minus_none _ _ _))
-
-pub step_columns-step-requires : goal.step_columns-step-requires
-step_columns-step-requires c = record {
-  w_bound = c.requires.w_bound.0;
-  rows_below = record {
-    order = c.requires.rows_below.order;
-    block = c.requires.rows_below.block;
-    block_high = c.requires.rows_below.block_high;
-    diagonal = refl;
-    some = c.requires.rows_below.some;
-    whole = c.requires.rows_below.whole;
-    above = omega (arith, c.requires.rows_below.above);
-    inside = omega arith;
-    size = c.requires.rows_below.size;
-  };
-}
 
 pub loop-k-preserved : goal.loop-k-preserved
 loop-k-preserved c =
@@ -40,8 +24,3 @@ loop-k-preserved c =
           (minus_next (λ q. get_or a.part.now (blocked_place a.h a.b (a.h - 1 - q) j) nan) (λ q. get_or a.v.now (a.h - 1 - q) nan) c.loop-k.k
           (get_or a.tile j nan)),
     )
-
-pub returns : goal.returns
-returns c =
-    let all : c.loop-k.k ≡ c.args.count = omega arith in
-    rw all at c.loop-k.invariant.1

@@ -13,6 +13,3 @@ invariant-loop-k l =
     × ((j : ℕ) → j < l.w →
     get_or l.next j nan
     ≡ minus_products (λ q. get_or l.part (blocked_place l.h l.b (l.h - 1 - q) j) nan) (λ q. get_or l.v (l.h - 1 - q) nan) l.k (get_or l.initial.next j nan))
-
-abbrev pub decreases-loop-k : goal.decreases-loop-k
-decreases-loop-k l = l.count - l.k

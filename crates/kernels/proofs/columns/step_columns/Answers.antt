@@ -1,37 +1,22 @@
 -- `kernels::columns::step_columns` meets its contract. The invariant of its loop: the first k columns, whole block columns, are done, and x is the
 -- place of row i in the next one. Assumes nothing.
-use Prim.Native.Nat.{◌+◌, ◌-◌, ◌*◌, ◌≤◌}
+use Prim.Native.Nat.{ℕ, ◌<◌, ◌+◌, ◌-◌, ◌≤◌}
 use native.Mathlib.Nat.{mul-le-mul}
 use native.Mathlib.Omega.{arith}
 use mathlib.Core.Path.{◌≡◌, ap, ◌∙◌}
-use lib.Ieee.{nan}
+use mathlib.Core.List.{List}
+use lib.ListN.{get_or}
+use lib.Ieee.{Float, nan}
 use Rattle.shape.specs.Places.{triangle}
-use Rattle.shape.proofs.Bounds.{product_fits}
 use Rattle.shape.proofs.Columns.{triangle_exact, block_start_zero}
 use Rattle.shape.proofs.Blocks.{block_of_le, block_of_next, block_before}
+use Rattle.kernels.specs.Kernels.{Filled}
 use Rattle.kernels.proofs.Parts.{filled_none}
-use Rattle.kernels.proofs.Runs.{square_ge, row_inside, next_place, row_turn, columns_next}
+use Rattle.kernels.proofs.Runs.{square_ge, next_place, less_row, row_turn, columns_room, columns_turn}
 use Rattle.kernels.proofs.columns.step_columns.Goals as goal
-
-pub overflow_mul-step : goal.overflow_mul-step
-overflow_mul-step c = omega (arith, c.requires.rows_below.block_high)
-
-pub overflow_mul-step-2 : goal.overflow_mul-step-2
-overflow_mul-step-2 c =
-    let a = c.args in
-    product_fits (2 * a.b) a.b (omega (arith, c.requires.rows_below.block_high)) (omega (arith, c.requires.rows_below.block_high))
-
-pub new-requires : goal.new-requires
-new-requires c = tt
-
-pub triangle-requires : goal.triangle-requires
-triangle-requires c = omega (arith, c.new.ensures, c.requires.rows_below.block_high)
 
 pub overflow_sub-step : goal.overflow_sub-step
 overflow_sub-step c = omega (arith, c.triangle.ensures ∙ ap triangle c.new.ensures.0, triangle_exact c.args.b, square_ge c.args.b)
-
-pub place_in_block-x-requires : goal.place_in_block-x-requires
-place_in_block-x-requires c = omega (arith, c.requires.rows_below.inside, c.requires.rows_below.order)
 
 pub loop-k-init : goal.loop-k-init
 loop-k-init c =
@@ -44,27 +29,17 @@ loop-k-init c =
       filled_none nan 0 _ _,
     )
 
-pub step_row-row-requires : goal.step_row-row-requires
-step_row-row-requires c =
-    let a = c.args in
-    let t = row_turn c.requires.rows_below (omega arith) c.loop-k.invariant.1 c.loop-k-test.true in (
-      omega (arith, t.0, c.requires.w_bound),
-      omega (
-        arith,
-        c.loop-k.invariant.2 c.loop-k-test.true,
-        row_inside a.h a.b c.loop-k.k c.loop-k.invariant.1 a.i 0 c.requires.rows_below.block t.1 (omega (arith, t.2)),
-        c.requires.rows_below.size,
-      ),
-    )
+pub slice_bounds-next-end : goal.slice_bounds-next-end
+slice_bounds-next-end c =
+    omega (arith, (row_turn c.requires.rows_below (omega arith) c.loop-k.invariant.1 c.loop-k-test.true).0, c.requires.w_bound, c.loop-k-test.array_long)
 
-pub overflow_sub-x : goal.overflow_sub-x
-overflow_sub-x c =
-    omega (arith, row_turn c.requires.rows_below (omega arith) c.loop-k.invariant.1 c.loop-k-test.true)
+pub offset_bounds-part-x : goal.offset_bounds-part-x
+offset_bounds-part-x c =
+    omega (arith, columns_room c.args.part.now c.requires.rows_below c.loop-k.invariant.1 c.loop-k-test.true (c.loop-k.invariant.2 c.loop-k-test.true))
 
-pub overflow_mul-x : goal.overflow_mul-x
-overflow_mul-x c =
-    let a = c.args in
-    product_fits (a.h - c.loop-k.k) a.b (omega (arith, c.requires.rows_below.order)) (omega (arith, c.requires.rows_below.block_high))
+pub slice_bounds-subtract_multiple-end : goal.slice_bounds-subtract_multiple-end
+slice_bounds-subtract_multiple-end c =
+    omega (arith, columns_room c.args.part.now c.requires.rows_below c.loop-k.invariant.1 c.loop-k-test.true (c.loop-k.invariant.2 c.loop-k-test.true))
 
 pub overflow_add-x : goal.overflow_add-x
 overflow_add-x c =
@@ -86,13 +61,6 @@ overflow_sub-x-in-loop-k c =
       c.loop-k.invariant.3,
     )
 
-pub overflow_add-k : goal.overflow_add-k
-overflow_add-k c =
-    omega (arith, (row_turn c.requires.rows_below (omega arith) c.loop-k.invariant.1 c.loop-k-test.true).0, c.requires.w_bound)
-
-pub loop-k-smaller : goal.loop-k-smaller
-loop-k-smaller c = omega (arith, c.requires.rows_below.block)
-
 pub loop-k-preserved : goal.loop-k-preserved
 loop-k-preserved c =
     let a = c.args in
@@ -105,13 +73,20 @@ loop-k-preserved c =
           let next = block_before a.b (c.loop-k.k + a.b) a.w first c.requires.rows_below.whole more in
           omega (arith, place, c.loop-k.invariant.3, next_place a.h a.b c.loop-k.k c.loop-k.invariant.1 a.i (omega (arith, next, c.requires.rows_below.above)) t.2),
       c.loop-k.invariant.3,
-      columns_next a.h a.b a.i c.loop-k.k c.loop-k.x a.part.now a.tile c.loop-k.next c.step_row-row.result a.y c.loop-k.invariant.1 t.1 t.2 place
-          c.loop-k.invariant.4 c.step_row-row.ensures,
+      columns_turn c.args.part.now c.requires.rows_below c.loop-k.invariant.1 c.loop-k-test.true place c.loop-k-test.array_long c.requires.w_bound c.loop-k.invariant.4
+          c.subtract_multiple.ensures,
     )
 
-pub returns : goal.returns
-returns c =
-    let all : c.loop-k.k ≡ c.args.w = omega arith in
-    λ j h.
+-- all columns are done
+done : (k w : ℕ) (f : ℕ → Float) (t₀ t : List Float) → k ≡ w → Filled nan 0 k f t₀ t → (j : ℕ) → j < w → get_or t j nan ≡ f j
+done k w f t₀ t all so j h =
     let none : 0 + j ≡ j = omega arith in
-    rw none at (c.loop-k.invariant.4.inside j (omega arith))
+    rw none at (so.inside j (omega arith))
+
+pub returns-2 : goal.returns-2
+returns-2 c =
+    let a = c.args in
+    let t = row_turn c.requires.rows_below (omega arith) c.loop-k.invariant.1 c.loop-k-test.true in
+    done (c.loop-k.k + a.b) a.w (less_row a.h a.b a.i a.part.now a.y a.tile) a.tile _ (omega (arith, t.0))
+    (columns_turn a.part.now c.requires.rows_below c.loop-k.invariant.1 c.loop-k-test.true (c.loop-k.invariant.2 c.loop-k-test.true)
+    c.loop-k-test.array_long c.requires.w_bound c.loop-k.invariant.4 c.subtract_multiple.ensures)

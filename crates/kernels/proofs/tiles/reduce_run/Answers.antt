@@ -1,39 +1,31 @@
 -- `kernels::tiles::reduce_run` meets its contract. The invariant of its loop: every value is less the products of the first k columns, whole block
 -- columns, and x is the place of row i in the next one. Assumes nothing.
-use Prim.Native.Nat.{◌+◌, ◌-◌, ◌*◌, ◌≤◌}
+use Prim.Native.Nat.{◌+◌, ◌-◌, ◌*◌, ◌≤◌, ◌<◌}
 use native.Mathlib.Nat.{mul-le-mul, mul-le-mul_left}
 use native.Mathlib.Omega.{arith}
 use mathlib.Core.Path.{◌≡◌, refl, sym}
-use Rattle.shape.proofs.Bounds.{product_fits}
+use borrow.Author.Rules.{rules}
+use lib.ListN.{length}
 use Rattle.shape.proofs.Columns.{triangle_exact}
 use Rattle.shape.proofs.Blocks.{block_of_le, block_of_next, block_before}
 use Rattle.kernels.proofs.Products.{minus_none}
 use Rattle.kernels.proofs.Runs.{square_ge, row_inside, next_place, row_begins, row_turn, run_next}
 use Rattle.kernels.proofs.tiles.reduce_run.Goals as goal
 
-pub overflow_mul-step : goal.overflow_mul-step
-overflow_mul-step c = omega (arith, c.requires.rows_below.block_high)
-
-pub overflow_mul-step-2 : goal.overflow_mul-step-2
-overflow_mul-step-2 c = product_fits (2 * c.args.run.block) c.args.run.block (omega (arith, c.requires.rows_below.block_high)) (omega (arith, c.requires.rows_below.block_high))
-
 pub overflow_sub-step : goal.overflow_sub-step
-overflow_sub-step c = omega (arith, c.requires.rows_below.diagonal, triangle_exact c.args.run.block, square_ge c.args.run.block)
+overflow_sub-step g c = omega (arith, c.requires.rows_below.diagonal, triangle_exact c.args.run.block, square_ge c.args.run.block)
 
 pub overflow_add-x : goal.overflow_add-x
-overflow_add-x c = omega (arith, c.requires.rows_below.size, row_begins c.requires.rows_below c.requires.rows_nonzero.0)
+overflow_add-x g c = omega (arith, c.requires.rows_below.size, row_begins c.requires.rows_below c.requires.rows_nonzero.0)
 
 pub overflow_sub-x : goal.overflow_sub-x
-overflow_sub-x c = omega (arith, (row_begins c.requires.rows_below c.requires.rows_nonzero.0).0)
-
-pub overflow_mul-x : goal.overflow_mul-x
-overflow_mul-x c = omega (arith, row_begins c.requires.rows_below c.requires.rows_nonzero.0)
+overflow_sub-x g c = omega (arith, (row_begins c.requires.rows_below c.requires.rows_nonzero.0).0)
 
 pub overflow_add-x-2 : goal.overflow_add-x-2
-overflow_add-x-2 c = omega (arith, c.requires.rows_below.size, row_begins c.requires.rows_below c.requires.rows_nonzero.0)
+overflow_add-x-2 g c = omega (arith, c.requires.rows_below.size, row_begins c.requires.rows_below c.requires.rows_nonzero.0)
 
 pub loop-k-init : goal.loop-k-init
-loop-k-init c =
+loop-k-init g c =
     let a = c.args in
     let first = row_begins c.requires.rows_below c.requires.rows_nonzero.0 in (
       omega arith,
@@ -44,47 +36,38 @@ loop-k-init c =
       λ r s h p. sym (minus_none _ _ _),
     )
 
-pub overflow_mul-lanes : goal.overflow_mul-lanes
-overflow_mul-lanes c =
-    let low : c.loop-k.k ≤ c.args.run.columns = omega arith in
-    omega (arith, c.requires.rows_nonzero, mul-le-mul_left c.args.lanes low)
-
 pub reduce_block-block-requires : goal.reduce_block-block-requires
-reduce_block-block-requires c =
+reduce_block-block-requires g c =
     let a = c.args in
-    let t = row_turn c.requires.rows_below c.requires.rows_nonzero.0 c.loop-k.invariant.1 c.loop-k-test.true in record {
-      rows_nonzero = omega (arith, c.requires.rows_nonzero, mul-le-mul_left a.lanes t.0);
-      by_index = λ r h.
-          omega (
-            arith,
-            c.loop-k.invariant.2 c.loop-k-test.true,
-            c.requires.rows_below.size,
-            row_inside a.run.order a.run.block c.loop-k.k c.loop-k.invariant.1 a.i r c.requires.rows_below.block t.1 (omega (arith, c.requires.rows_below.inside)),
-          );
-    }
-
-pub overflow_sub-x-in-loop-k : goal.overflow_sub-x-in-loop-k
-overflow_sub-x-in-loop-k c = omega (arith, row_turn c.requires.rows_below c.requires.rows_nonzero.0 c.loop-k.invariant.1 c.loop-k-test.true)
-
-pub overflow_mul-x-in-loop-k : goal.overflow_mul-x-in-loop-k
-overflow_mul-x-in-loop-k c = product_fits (c.args.run.order - c.loop-k.k) c.args.run.block (omega (arith, c.requires.rows_below.order)) (omega (arith, c.requires.rows_below.block_high))
+    let t = row_turn c.requires.rows_below c.requires.rows_nonzero.0 c.loop-k.invariant.1 c.loop-k-test.true in
+    let first : (0 < g.row.ROWS) × (g.row.LANES * c.loop-k.k + g.row.LANES * a.run.block ≤ length a.panel.now) =
+    omega (arith, c.requires.rows_nonzero, mul-le-mul_left g.row.LANES t.0) in (
+      search rules,
+      (
+        search rules,
+        (
+          first,
+          λ r h.
+              omega (
+                arith,
+                c.loop-k.invariant.2 c.loop-k-test.true,
+                c.requires.rows_below.size,
+                row_inside a.run.order a.run.block c.loop-k.k c.loop-k.invariant.1 a.i r c.requires.rows_below.block t.1 (omega (arith, c.requires.rows_below.inside)),
+              ),
+        ),
+      ),
+    )
 
 pub overflow_add-x-in-loop-k : goal.overflow_add-x-in-loop-k
-overflow_add-x-in-loop-k c =
+overflow_add-x-in-loop-k g c =
     let rest : c.args.run.order - c.loop-k.k ≤ 4000 = omega (arith, c.requires.rows_below.order) in
     omega (arith, row_turn c.requires.rows_below c.requires.rows_nonzero.0 c.loop-k.invariant.1 c.loop-k-test.true, c.loop-k.invariant.2 c.loop-k-test.true, row_begins c.requires.rows_below c.requires.rows_nonzero.0, c.well_formed, mul-le-mul rest c.requires.rows_below.block_high)
 
 pub overflow_sub-x-in-loop-k-2 : goal.overflow_sub-x-in-loop-k-2
-overflow_sub-x-in-loop-k-2 c = omega (arith, row_turn c.requires.rows_below c.requires.rows_nonzero.0 c.loop-k.invariant.1 c.loop-k-test.true, c.loop-k.invariant.2 c.loop-k-test.true, c.loop-k.invariant.3)
-
-pub overflow_add-k : goal.overflow_add-k
-overflow_add-k c = omega (arith, row_turn c.requires.rows_below c.requires.rows_nonzero.0 c.loop-k.invariant.1 c.loop-k-test.true)
-
-pub loop-k-smaller : goal.loop-k-smaller
-loop-k-smaller c = omega (arith, c.requires.rows_below.block)
+overflow_sub-x-in-loop-k-2 g c = omega (arith, row_turn c.requires.rows_below c.requires.rows_nonzero.0 c.loop-k.invariant.1 c.loop-k-test.true, c.loop-k.invariant.2 c.loop-k-test.true, c.loop-k.invariant.3)
 
 pub loop-k-preserved : goal.loop-k-preserved
-loop-k-preserved c =
+loop-k-preserved g c =
     let a = c.args in
     let t = row_turn c.requires.rows_below c.requires.rows_nonzero.0 c.loop-k.invariant.1 c.loop-k-test.true in
     let n = a.run.order in
@@ -104,11 +87,15 @@ loop-k-preserved c =
           ),
       c.loop-k.invariant.3,
       c.loop-k.invariant.4,
-      run_next a.rows a.lanes a.run.start n b a.i c.loop-k.k a.m.now a.panel.now a.tile c.loop-k.next c.reduce_block-block.result c.loop-k.invariant.1
+      run_next g.row.ROWS g.row.LANES a.run.start n b a.i c.loop-k.k a.m.now a.panel.now a.tile c.loop-k.next c.reduce_block-block.result c.loop-k.invariant.1
           t.1 c.requires.rows_below.inside c.loop-k.invariant.5 (rw (c.loop-k.invariant.2 c.loop-k-test.true) at c.reduce_block-block.ensures),
     )
 
-pub returns : goal.returns
-returns c =
-    let e : c.loop-k.k ≡ c.args.run.columns = omega arith in
-    rw e at c.loop-k.invariant.5
+pub returns-2 : goal.returns-2
+returns-2 g c =
+    let a = c.args in
+    let t = row_turn c.requires.rows_below c.requires.rows_nonzero.0 c.loop-k.invariant.1 c.loop-k-test.true in
+    let all : c.loop-k.k + a.run.block ≡ a.run.columns = omega (arith, t.0) in
+    rw all at
+    (run_next g.row.ROWS g.row.LANES a.run.start a.run.order a.run.block a.i c.loop-k.k a.m.now a.panel.now a.tile c.loop-k.next c.reduce_block-block.result
+    c.loop-k.invariant.1 t.1 c.requires.rows_below.inside c.loop-k.invariant.5 (rw (c.loop-k.invariant.2 c.loop-k-test.true) at c.reduce_block-block.ensures))

@@ -1,47 +1,28 @@
 -- `kernels::tiles::step_tile` meets its contract. The invariant of its loop: the first r rows have their product subtracted. Assumes nothing.
-use Prim.Native.Nat.{◌+◌, ◌*◌}
+use Prim.Native.Nat.{◌+◌, ◌-◌, ◌*◌}
 use native.Mathlib.Nat.{le_refl}
 use native.Mathlib.Omega.{arith}
-use mathlib.Core.Path.{◌≡◌, ap, ◌∙◌}
-use lib.ListN.{get_or}
+use mathlib.Core.Path.{◌≡◌, ap₂, ◌∙◌}
+use mathlib.Core.List.{List, []}
+use lib.ListN.{length, get_or}
 use lib.Ieee.{Float, nan, binary64, sub, mul}
 use Rattle.kernels.specs.Kernels.{tile_at}
-use Rattle.kernels.proofs.Grids.{row_end, rows_none, rows_next, step_row}
+use Rattle.kernels.proofs.Grids.{rows_next, step_row}
+use Rattle.kernels.proofs.Parts.{get_d_part}
 use Rattle.kernels.proofs.tiles.step_tile.Goals as goal
 
-pub loop-r-init : goal.loop-r-init
-loop-r-init c = (omega arith, rows_none _ _ _ _ (le_refl _))
-
-pub overflow_mul-r : goal.overflow_mul-r
-overflow_mul-r c = omega (arith, row_end c.args.rows c.args.lanes c.loop-r.r c.loop-r-test.true)
-
-pub overflow_mul-r-in-loop-r : goal.overflow_mul-r-in-loop-r
-overflow_mul-r-in-loop-r c = omega (arith, c.requires.by_index c.loop-r.r c.loop-r-test.true)
-
-pub overflow_add-x : goal.overflow_add-x
-overflow_add-x c = omega (arith, c.requires.by_index c.loop-r.r c.loop-r-test.true)
-
-pub offset_bounds-m-x : goal.offset_bounds-m-x
-offset_bounds-m-x c = omega (arith, c.requires.by_index c.loop-r.r c.loop-r-test.true)
-
-pub bounds-m-x : goal.bounds-m-x
-bounds-m-x c = c.requires.by_index c.loop-r.r c.loop-r-test.true
-
-pub step_row-row-requires : goal.step_row-row-requires
-step_row-row-requires c = omega (arith, c.requires.lanes_bound, row_end c.args.rows c.args.lanes c.loop-r.r c.loop-r-test.true)
-
 pub loop-r-preserved : goal.loop-r-preserved
-loop-r-preserved c =
-    let a = c.args in (
+loop-r-preserved g c =
+    let a = c.args in
+    let y = get_or a.m.now (a.x + c.loop-r.r * a.stride) nan in (
       omega arith,
-      rows_next a.lanes a.lanes _ _ (le_refl _) c.loop-r.r _ c.loop-r.next _ c.loop-r.invariant.1 c.step_row-row.ensures
+      c.loop-r.invariant.1,
+      rows_next _ _ _ c.loop-r.r c.subtract_multiple.new.v c.loop-r.row-items (omega arith) c.loop-r.invariant.2
           (λ s h.
-          ap (λ (t : Float). sub binary64 t (mul binary64 (get_or a.panel.now (a.at + s) nan) (get_or a.m.now (a.x + c.loop-r.r * a.stride) nan)))
-          (c.loop-r.invariant.1.rest (c.loop-r.r * a.lanes + s) (omega arith))
-          ∙ step_row (tile_at a.lanes a.tile c.loop-r.r s) (get_or a.panel.now (a.at + s) nan) (get_or a.m.now (a.x + c.loop-r.r * a.stride) nan)),
+          let long : length (get_or c.loop-r.row-items c.loop-r.r []) ≡ g.row.LANES = omega arith in
+          let part : a.at + g.row.LANES - a.at ≡ g.row.LANES = omega arith in
+          c.subtract_multiple.ensures.value s (omega (arith, long))
+          ∙ ap₂ (λ (v : List Float) (x : Float). sub binary64 (get_or v s nan) (mul binary64 x y)) (c.loop-r.invariant.2.rest c.loop-r.r (le_refl _))
+          (get_d_part nan a.at _ a.panel.now s (omega (arith, part)))
+          ∙ step_row (tile_at a.tile c.loop-r.r s) (get_or a.panel.now (a.at + s) nan) y),
     )
-
-pub returns : goal.returns
-returns c =
-    let e : c.loop-r.r ≡ c.args.rows = omega arith in
-    rw e at c.loop-r.invariant.1.done

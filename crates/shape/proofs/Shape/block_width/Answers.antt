@@ -4,4 +4,4 @@ use Rattle.shape.proofs.Shape.block_width.Goals as goal
 
 pub returns : goal.returns
 unfolding width
-returns c = c.least.ensures
+returns c = c.min.ensures

@@ -11,4 +11,4 @@ overflow_mul-result c = product_fits _ _ (omega arith) (omega arith)
 
 pub returns : goal.returns
 unfolding block_work
-returns c = ap (λ (w : ℕ). c.args.self.order * w) c.least.ensures
+returns c = ap (λ (w : ℕ). c.args.self.order * w) c.min.ensures

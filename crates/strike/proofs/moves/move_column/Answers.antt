@@ -1,34 +1,37 @@
 -- `strike::moves::move_column` meets its contract. Assumes nothing.
-use Prim.Native.Nat.{◌+◌, ◌-◌}
+use Prim.Native.Nat.{◌+◌, ◌*◌, ◌/◌, ◌<◌}
 use native.Mathlib.Omega.{arith}
-use mathlib.Core.Path.{◌≡◌}
+use mathlib.Core.Path.{◌≡◌, refl}
 use lib.ListN.{length}
-use lib.Ieee.{nan}
-use Rattle.kernels.proofs.Parts.{filled_none}
-use Rattle.strike.proofs.Rows.{ahead_part, moved_next}
+use Rattle.strike.proofs.Rows.{part_drop, length_chunk, part_chunk, rising_part, ahead_part, moved_next}
 use Rattle.strike.proofs.moves.move_column.Goals as goal
-
-pub loop-k-init : goal.loop-k-init
-loop-k-init c = (omega arith, filled_none nan _ _ _)
 
 pub move16-requires : goal.move16-requires
 move16-requires c =
-    record { ahead = rw c.loop-k.invariant.1.size (ahead_part c.requires.ahead c.loop-k.k 16 c.loop-k-test.true); rising = c.requires.rising }
+    let a = c.args in
+    let at = c.loop-chunk in
+    let chunk = rw (← c.as_chunks.ensures.front) at (part_chunk a.rows.now at.chunk-index (omega (arith, c.as_chunks.ensures.front_len))) in
+    record {
+      ahead = rw at.invariant.1.size (ahead_part a.rows.now _ a.base a.to _ at.to _ at.invariant.0 chunk c.requires.ahead);
+      rising = rising_part chunk c.requires.rising;
+    }
 
-pub loop-k-preserved : goal.loop-k-preserved
-loop-k-preserved c =
-    let more = c.loop-k-test.true in
-    (more, moved_next c.requires.ahead c.loop-k.k 16 more c.args.m.now c.loop-k.m _ c.loop-k.invariant.1 c.move16.ensures)
-
-pub move_values-requires : goal.move_values-requires
-move_values-requires c =
-    rw c.loop-k.invariant.1.size (ahead_part c.requires.ahead c.loop-k.k (length c.args.rows.now - c.args.at - c.loop-k.k) (omega arith))
-
-pub shape_of-m : goal.shape_of-m
-shape_of-m c = omega (arith, c.move_values.ensures.size, c.loop-k.invariant.1.size)
+pub loop-chunk-preserved : goal.loop-chunk-preserved
+loop-chunk-preserved c =
+    let a = c.args in
+    let at = c.loop-chunk in
+    let inside : at.chunk-index < length a.rows.now / 16 = omega (arith, c.as_chunks.ensures.front_len) in
+    let chunk = rw (← c.as_chunks.ensures.front) at (part_chunk a.rows.now at.chunk-index inside) in
+    let size = rw (← c.as_chunks.ensures.front) at (length_chunk a.rows.now at.chunk-index inside) in
+    let more : 16 * (at.chunk-index + 1) ≡ 16 * at.chunk-index + 16 = omega arith in
+    rw more (omega (arith, at.invariant.0), moved_next a.rows.now _ a.base a.to _ at.to _ at.invariant.0 chunk c.requires.ahead 16 a.m.now at.m _ size at.invariant.1 c.move16.ensures)
 
 pub returns : goal.returns
 returns c =
-    let count = length c.args.rows.now - c.args.at in
-    let end : c.loop-k.k + (count - c.loop-k.k) ≡ count = omega arith in
-    rw end at (moved_next c.requires.ahead c.loop-k.k (count - c.loop-k.k) (omega arith) c.args.m.now c.loop-k.m _ c.loop-k.invariant.1 c.move_values.ensures)
+    let a = c.args in
+    let at = c.loop-chunk in
+    let count = length a.rows.now in
+    let done : 16 * at.chunk-index ≡ count / 16 * 16 = omega (arith, c.as_chunks.ensures.front_len) in
+    let all : 16 * at.chunk-index + length c.as_chunks.result.1.now ≡ count = omega (arith, done, c.as_chunks.ensures.back_len) in
+    let rest = rw (← c.as_chunks.ensures.back, ← done) at (part_drop a.rows.now (count / 16 * 16) (omega arith)) in
+    rw all at (moved_next a.rows.now c.as_chunks.result.1.now a.base a.to _ at.to _ at.invariant.0 rest c.requires.ahead (length c.as_chunks.result.1.now) a.m.now at.m _ refl at.invariant.1 c.move_values.ensures)

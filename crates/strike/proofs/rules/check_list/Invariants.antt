@@ -1,6 +1,6 @@
 -- `strike::rules::check_list` meets its contract. The loop's invariant: no position before p refuses, and `next` is one more than the unknown before p, or 0. The
 -- measure is the number of positions left. Assumes nothing.
-use Prim.Native.Nat.{ℕ, ◌+◌, ◌-◌, ◌≤◌}
+use Prim.Native.Nat.{ℕ, ◌+◌, ◌≤◌}
 use mathlib.Core.Path.{◌≡◌}
 use mathlib.Core.List.{List}
 use lib.ListN.{length, get_or}
@@ -15,6 +15,3 @@ pub record Following (list : List ℕ) (p next : ℕ) : Type 0 where
 
 abbrev pub invariant-loop-p : goal.invariant-loop-p
 invariant-loop-p l = (l.p ≤ length l.list) × (lowest_refusal (listed_at l.n l.list) l.p ≡ success) × Following l.list l.p l.next
-
-abbrev pub decreases-loop-p : goal.decreases-loop-p
-decreases-loop-p l = length l.list - l.p

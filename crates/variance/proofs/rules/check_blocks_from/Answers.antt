@@ -10,7 +10,7 @@ use Rattle.shape.specs.Places.{triangle, block_of, block_start, width}
 use Rattle.shape.proofs.Bounds.{block_start_le, triangle_le}
 use Rattle.shape.proofs.Blocks.{block_of_le, width_le}
 use Rattle.calls.specs.Refusals.{accepted}
-use Rattle.calls.proofs.Judging.{refused_of, accepted_of}
+use Rattle.calls.proofs.OutcomeLaws.{not_accepted, passed_on}
 use Rattle.variance.specs.Parts.{finite_part}
 use Rattle.variance.proofs.ColumnParts.{RowsPassed, rows_start, RowTurn, row_turn, rows_end}
 use Rattle.variance.proofs.rules.check_blocks_from.Goals as goal
@@ -57,12 +57,12 @@ overflow_sub-to c =
     let s = c.args.shape in
     let pre = c.requires in
     let t =
-    turn s.order s.block c.args.k c.args.matrix.now c.loop-i.i c.loop-i.from c.block_of-c.result c.block_width.result c.least.result
+    turn s.order s.block c.args.k c.args.matrix.now c.loop-i.i c.loop-i.from c.block_of-c.result c.block_width.result c.min.result
     pre.order_le_max_order.1 pre.order_le_max_order.2 pre.matrix_len c.loop-i.invariant c.loop-i-test.true c.block_of-c.ensures
-    c.block_width.ensures c.least.ensures in
+    c.block_width.ensures c.min.ensures in
     omega (
       arith,
-      c.least.ensures,
+      c.min.ensures,
       ends s.order s.block c.args.k c.block_of-c.result c.block_width.result c.block_of-c.ensures c.block_width.ensures,
       t.columns,
     )
@@ -72,31 +72,31 @@ overflow_add-to c =
     let s = c.args.shape in
     let pre = c.requires in
     let t =
-    turn s.order s.block c.args.k c.args.matrix.now c.loop-i.i c.loop-i.from c.block_of-c.result c.block_width.result c.least.result
+    turn s.order s.block c.args.k c.args.matrix.now c.loop-i.i c.loop-i.from c.block_of-c.result c.block_width.result c.min.result
     pre.order_le_max_order.1 pre.order_le_max_order.2 pre.matrix_len c.loop-i.invariant c.loop-i-test.true c.block_of-c.ensures
-    c.block_width.ensures c.least.ensures in
+    c.block_width.ensures c.min.ensures in
     omega (arith, t.fits, triangle_le s.order pre.order_le_max_order.0, pre.matrix_len)
 
-pub check_part-row-requires : goal.check_part-row-requires
-check_part-row-requires c =
+pub check_part-requires : goal.check_part-requires
+check_part-requires c =
     let s = c.args.shape in
     let pre = c.requires in
     let t =
-    turn s.order s.block c.args.k c.args.matrix.now c.loop-i.i c.loop-i.from c.block_of-c.result c.block_width.result c.least.result
+    turn s.order s.block c.args.k c.args.matrix.now c.loop-i.i c.loop-i.from c.block_of-c.result c.block_width.result c.min.result
     pre.order_le_max_order.1 pre.order_le_max_order.2 pre.matrix_len c.loop-i.invariant c.loop-i-test.true c.block_of-c.ensures
-    c.block_width.ensures c.least.ensures in
+    c.block_width.ensures c.min.ensures in
     (t.rising, t.fits)
 
-pub returns-then-not-accepted : goal.returns-then-not-accepted
-returns-then-not-accepted c =
+pub returns-in_err-check_part : goal.returns-in_err-check_part
+returns-in_err-check_part c =
     let s = c.args.shape in
     let pre = c.requires in
     let t =
-    turn s.order s.block c.args.k c.args.matrix.now c.loop-i.i c.loop-i.from c.block_of-c.result c.block_width.result c.least.result
+    turn s.order s.block c.args.k c.args.matrix.now c.loop-i.i c.loop-i.from c.block_of-c.result c.block_width.result c.min.result
     pre.order_le_max_order.1 pre.order_le_max_order.2 pre.matrix_len c.loop-i.invariant c.loop-i-test.true c.block_of-c.ensures
-    c.block_width.ensures c.least.ensures in
-    let refused = refused_of c.accepted.result c.check_part-row.result c.accepted.ensures c.if-not-accepted.true-raw in
-    c.check_part-row.ensures ∙ t.refused (sym (ap accepted c.check_part-row.ensures) ∙ refused)
+    c.block_width.ensures c.min.ensures in
+    rw (passed_on c.from_residual.result _ c.from_residual.ensures.1)
+    (c.in_err-check_part.ensures ∙ t.refused (sym (ap accepted c.in_err-check_part.ensures) ∙ not_accepted c.in_err-check_part.field-0.0))
 
 pub overflow_sub-from : goal.overflow_sub-from
 overflow_sub-from c = omega (arith, c.block_of-c.ensures, block_of_le c.args.shape.block c.args.k)
@@ -106,9 +106,9 @@ overflow_add-from c =
     let s = c.args.shape in
     let pre = c.requires in
     let t =
-    turn s.order s.block c.args.k c.args.matrix.now c.loop-i.i c.loop-i.from c.block_of-c.result c.block_width.result c.least.result
+    turn s.order s.block c.args.k c.args.matrix.now c.loop-i.i c.loop-i.from c.block_of-c.result c.block_width.result c.min.result
     pre.order_le_max_order.1 pre.order_le_max_order.2 pre.matrix_len c.loop-i.invariant c.loop-i-test.true c.block_of-c.ensures
-    c.block_width.ensures c.least.ensures in
+    c.block_width.ensures c.min.ensures in
     omega (arith, t.fits, triangle_le s.order pre.order_le_max_order.0, pre.matrix_len)
 
 pub loop-i-preserved : goal.loop-i-preserved
@@ -116,11 +116,10 @@ loop-i-preserved c =
     let s = c.args.shape in
     let pre = c.requires in
     let t =
-    turn s.order s.block c.args.k c.args.matrix.now c.loop-i.i c.loop-i.from c.block_of-c.result c.block_width.result c.least.result
+    turn s.order s.block c.args.k c.args.matrix.now c.loop-i.i c.loop-i.from c.block_of-c.result c.block_width.result c.min.result
     pre.order_le_max_order.1 pre.order_le_max_order.2 pre.matrix_len c.loop-i.invariant c.loop-i-test.true c.block_of-c.ensures
-    c.block_width.ensures c.least.ensures in
-    let passed = accepted_of c.accepted.result c.check_part-row.result c.accepted.ensures c.if-not-accepted.false-raw in
-    rw c.block_of-c.ensures (t.passed (sym (ap accepted c.check_part-row.ensures) ∙ passed))
+    c.block_width.ensures c.min.ensures in
+    rw c.block_of-c.ensures (t.passed (sym (ap accepted c.in_ok-check_part.ensures)))
 
 pub block_start-requires : goal.block_start-requires
 block_start-requires c =
@@ -136,8 +135,8 @@ block_start-requires c =
       );
     }
 
-pub check_part-requires : goal.check_part-requires
-check_part-requires c =
+pub check_part-requires-2 : goal.check_part-requires-2
+check_part-requires-2 c =
     let s = c.args.shape in
     let n = s.order in
     let f = block_of s.block c.args.k in
@@ -157,6 +156,6 @@ returns c =
     let pre = c.requires in
     let all : c.loop-i.i ≡ s.order = omega (arith, c.loop-i.invariant.high) in
     let end = ends s.order s.block c.args.k c.block_of-c.result c.block_width.result c.block_of-c.ensures c.block_width.ensures in
-    c.check_part.ensures ∙ ap (λ q. finite_part q (length matrix) matrix) (c.block_start.ensures ∙ ap (block_start s.order) end)
+    c.check_part-2.ensures ∙ ap (λ q. finite_part q (length matrix) matrix) (c.block_start.ensures ∙ ap (block_start s.order) end)
     ∙ rows_end s.order s.block c.args.k pre.order_le_max_order.1 pre.order_le_max_order.2 matrix pre.matrix_len c.loop-i.from
     (rw all at c.loop-i.invariant)

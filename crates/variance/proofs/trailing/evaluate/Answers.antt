@@ -1,28 +1,38 @@
 -- `variance::trailing::evaluate` meets its contract. Assumes nothing.
-use Prim.Native.Nat.{◌-◌}
-use mathlib.Core.Path.{ap, ◌∙◌, subst}
-use borrow.Author.Tests.{not-true, not-false}
+use Prim.Native.Nat.{ℕ, ◌-◌, ◌<◌}
+use native.Mathlib.Omega.{arith}
+use mathlib.Core.Path.{◌≡◌, ap, ◌∙◌, subst}
+use mathlib.Core.List.{List}
+use lib.ListN.{length, set, replicate}
+use lib.Ieee.{Float, of_bits}
+use Rattle.std.specs.Prelude.{Ok, Err}
+use Rattle.binary64.specs.Kinds.{zero64, one64}
 use Rattle.calls.specs.Variances.{unit_rhs}
-use Rattle.solve.specs.Solving.{factor_of, Substituted}
-use Rattle.variance.proofs.Outcomes.{verdict_refused, verdict_found}
+use Rattle.calls.proofs.OutcomeLaws.{passed_on}
+use Rattle.solve.specs.Parts.{trailing_of}
+use Rattle.solve.specs.Solving.{Substituted}
+use Rattle.variance.proofs.Outcomes.{unit_made, verdict_refused, verdict_found}
 use Rattle.variance.proofs.trailing.evaluate.Goals as goal
 
-pub returns-then-not-substitute : goal.returns-then-not-substitute
-returns-then-not-substitute c =
-    let a = c.args in
-    let p = a.shape.order - a.k in
-    let l = factor_of a.layout a.shape.order a.shape.block a.k a.matrix.now in
-    let made = c.unit_rhs.ensures ∙ ap (λ q. unit_rhs q 0) c.requires.checked.work_length in
-    c.refusal.ensures ∙ verdict_refused p l c.substitute.result c.substitute.new.work
-    (subst (λ rhs. Substituted p l rhs c.substitute.result c.substitute.new.work) made c.substitute.ensures)
-    (not-true c.substitute.result c.if-not-substitute.true-raw)
+-- the right-hand side that is made
+made : (p : ℕ) (v w : List Float) → 0 < p → length w ≡ p → v ≡ replicate (length w) zero64 → set v 0 one64 ≡ unit_rhs p 0
+made p v w some size zeros = ap (λ x. set x 0 one64) (zeros ∙ ap (λ n. replicate n zero64) size) ∙ unit_made p some
+
+pub returns-in_err-substitute : goal.returns-in_err-substitute
+unfolding of_bits
+returns-in_err-substitute c =
+    let f = c.args.factor.now in
+    let p = f.shape.order - f.first in
+    let unit = made p c.fill.new.self c.args.work.now (omega arith) c.requires.work_len (c.fill.ensures.after (λ y e. e)) in
+    rw (passed_on c.from_residual.result _ c.from_residual.ensures.1)
+    (verdict_refused p (trailing_of f) c.substitute.new.work c.in_err-substitute.field-0.0
+    (subst (λ rhs. Substituted p (trailing_of f) 0 rhs (Err c.in_err-substitute.field-0.0) c.substitute.new.work) unit c.in_err-substitute.ensures))
 
 pub returns : goal.returns
+unfolding of_bits
 returns c =
-    let a = c.args in
-    let p = a.shape.order - a.k in
-    let l = factor_of a.layout a.shape.order a.shape.block a.k a.matrix.now in
-    let made = c.unit_rhs.ensures ∙ ap (λ q. unit_rhs q 0) c.requires.checked.work_length in
-    verdict_found p l c.substitute.result c.substitute.new.work
-    (subst (λ rhs. Substituted p l rhs c.substitute.result c.substitute.new.work) made c.substitute.ensures)
-    (not-false c.substitute.result c.if-not-substitute.false-raw)
+    let f = c.args.factor.now in
+    let p = f.shape.order - f.first in
+    let unit = made p c.fill.new.self c.args.work.now (omega arith) c.requires.work_len (c.fill.ensures.after (λ y e. e)) in
+    verdict_found p (trailing_of f) c.substitute.new.work c.in_ok-substitute.field-0
+    (subst (λ rhs. Substituted p (trailing_of f) 0 rhs (Ok c.in_ok-substitute.field-0) c.substitute.new.work) unit c.in_ok-substitute.ensures)

@@ -1,7 +1,0 @@
--- `binary64::kinds::metsovary_kind_of_bits` meets its contract. Assumes nothing.
-use mathlib.Core.Path.{ap, ◌∙◌}
-use Rattle.binary64.specs.Kinds.{kind_number}
-use Rattle.binary64.proofs.kinds.metsovary_kind_of_bits.Goals as goal
-
-pub returns : goal.returns
-returns c = c.kind_number.ensures ∙ ap kind_number c.kind_of_bits.ensures

@@ -1,9 +1,0 @@
--- `solve::blocked::forward_block` meets its contract: the triangle, and then the rows below it. Assumes nothing.
-use Rattle.solve.proofs.Substitution.{forward_done}
-use Rattle.solve.proofs.blocked.forward_block.Goals as goal
-
-pub returns : goal.returns
-returns c =
-    let a = c.args in
-    forward_done _ a.block.h a.block.w a.work.now _ _ c.forward_triangle.ensures
-    c.forward_rows.ensures

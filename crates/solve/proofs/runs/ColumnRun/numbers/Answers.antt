@@ -1,0 +1,1 @@
+-- `solve::runs::ColumnRun::numbers` meets its contract. Assumes nothing.
