@@ -16,7 +16,7 @@ def functions():
     """File, name, parameters and the clauses of each function."""
     for f in files:
         for m in re.finditer(r'^( *)(?:pub(?:\(\w+\))? )?(?:extern "C" )?fn (\w+)(?:<[^(]*>)?\(([^)]*)\)(.*?)\n?(?:\n\1| )\{\n', text[f], re.M | re.S):
-            yield f, m.group(2), [p.strip() for p in m.group(3).split(',') if p.strip()], m.group(4)
+            yield f, m.group(2), [p.strip() for p in re.sub(r'<[^<>]*>', '', m.group(3)).split(',') if p.strip()], m.group(4)
 counts = []
 def point(n, what, found):
     counts.append((n, what, len(found)))
