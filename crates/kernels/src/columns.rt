@@ -1,5 +1,5 @@
-// The first w columns of a memory of order h in blocked order, less products: up to sixteen columns, whole block columns of b columns. Numbers of
-// columns are written out where `reduce_columns` is called, so that the compiler keeps the values in registers.
+// The first W columns of a memory of order h in blocked order, less products: up to sixteen columns, whole block columns of B columns. Both are const
+// parameters, so that the compiler keeps the values in registers.
 ghost use Rattle.std.specs.Prelude.{◌≡◌, ℕ, ◌+◌, ◌-◌, ◌≤◌, ◌<◌, length, get_or};
 ghost use Rattle.std.specs.Float.{nan, binary64};
 ghost use Rattle.std.specs.Float.Ieee.{sub, mul};
@@ -11,51 +11,47 @@ use crate::subtract_multiple;
 use shape::Shape;
 
 // Column j less the product of its entry in row i, which is below them, and y. The row moves from a block column to the next as in `reduce_run`.
-fn step_columns(
+fn step_columns<const W: usize, const B: usize>(
     tile: [f64; 16],
-    w: usize,
-    b: usize,
     part: &[f64],
     h: usize,
     i: usize,
     y: f64,
 ) -> [f64; 16]
-    requires w_bound { w ≤ 16 }
-    requires rows_below { RowsBelow 0 h b (triangle b) w i 1 (length part.now) }
-    ensures { (j : ℕ) → j < w →
-        get_or result j nan ≡ sub binary64 (get_or tile j nan) (mul binary64 (get_or part.now (blocked_place h b i j) nan) y) }
+    requires w_bound { W ≤ 16 }
+    requires rows_below { RowsBelow 0 h B (triangle B) W i 1 (length part.now) }
+    ensures { (j : ℕ) → j < W →
+        get_or result j nan ≡ sub binary64 (get_or tile j nan) (mul binary64 (get_or part.now (blocked_place h B i j) nan) y) }
 {
-    let step = 2 * b * b - Shape::new(b, b).triangle();
+    let step = 2 * B * B - Shape::new(B, B).triangle();
     let mut next = tile;
-    let mut x = Shape::place_in_block(b, i, 0);
-    for k in (0..w).step_by(b) {
-        subtract_multiple(&mut next[k..k + b], &part[x..x + b], y);
-        x = x + (h - k) * b - step;
+    let mut x = Shape::place_in_block(B, i, 0);
+    for k in (0..W).step_by(B) {
+        subtract_multiple(&mut next[k..k + B], &part[x..x + B], y);
+        x = x + (h - k) * B - step;
     }
     next
 }
 
 // Column j less the products of its entries in the last `count` rows, which are below them, and the values of v beside these, from the last row up.
-pub fn reduce_columns(
+pub fn reduce_columns<const W: usize, const B: usize>(
     tile: [f64; 16],
-    w: usize,
-    b: usize,
     part: &[f64],
     h: usize,
     v: &[f64],
     count: usize,
 ) -> [f64; 16]
-    requires w_bound { (w ≤ 16) × (count ≤ h) × (h ≤ length v.now) }
-    requires rows_below { RowsBelow 0 h b (triangle b) w (h - count) count (length part.now) }
-    ensures { (j : ℕ) → j < w →
+    requires w_bound { (W ≤ 16) × (count ≤ h) × (h ≤ length v.now) }
+    requires rows_below { RowsBelow 0 h B (triangle B) W (h - count) count (length part.now) }
+    ensures { (j : ℕ) → j < W →
         get_or result j nan
-        ≡ minus_products (λ k. get_or part.now (blocked_place h b (h - 1 - k) j) nan) (λ k. get_or v.now (h - 1 - k) nan) count
+        ≡ minus_products (λ k. get_or part.now (blocked_place h B (h - 1 - k) j) nan) (λ k. get_or v.now (h - 1 - k) nan) count
         (get_or tile j nan) }
 {
     let mut next = tile;
     for k in 0..count {
         let i = h - 1 - k;
-        let step = step_columns(next, w, b, part, h, i, v[i]);
+        let step = step_columns::<W, B>(next, part, h, i, v[i]);
         next = step;
     }
     next

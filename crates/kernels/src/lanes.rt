@@ -1,5 +1,6 @@
 // N values at once, which are independent, so that the machine works on several while each keeps its order: loaded, stored, and less products.
-// `update` and `pack_lane` know a panel, which holds value k of lane t at place 16 k + t.
+// `update` and `pack_lane` know a panel, which holds value k of lane t at place 16 k + t. Loops go by index where two lists meet at places of their own: a
+// zip of parts of both is no plainer.
 ghost use Rattle.std.specs.Prelude.{◌≡◌, ℕ, ◌+◌, ◌*◌, ◌≤◌, ◌<◌, length, get_or};
 ghost use Rattle.std.specs.Float.{nan, binary64};
 ghost use Rattle.std.specs.Float.Ieee.{sub, mul, div};
@@ -11,8 +12,8 @@ ghost use Rattle.kernels.specs.Kernels.{Filled, Replaced, Scattered, row_at, lan
 use crate::tiles::reduce_block;
 use shape::Shape;
 
-// The first count of N values, from position at on; the others are zeros. N turns, since a loop of count turns becomes a call of the C library's copy, after
-// which the loops over products are slower.
+// The first count of N values, from position at on; the others are zeros.
+// N turns: a loop of count turns becomes a call of the C library's copy, after which the loops over products are slower.
 pub fn load_part<const N: usize>(v: &[f64], at: usize, count: usize) -> [f64; N]
     requires { (at + count ≤ length v.now) × (count ≤ N) }
     ensures { (s : ℕ) → s < count → get_or result s nan ≡ get_or v.now (at + s) nan }

@@ -13,8 +13,8 @@ mod tiles;
 
 pub use columns::reduce_columns;
 pub use lanes::{
-    divide, gather, load, load_part, pack_lane, packed_places, quotients, scatter, step, store,
-    store_part, subtract_falling, subtract_rising, update, update_part,
+    gather, load, load_part, pack_lane, packed_places, quotients, scatter, step, store, store_part,
+    subtract_falling, subtract_rising, update, update_part,
 };
 pub use tiles::{Run, load_tile, reduce_run, store_tile};
 
@@ -40,8 +40,8 @@ pub fn minus_products(m: &[f64], x: usize, y: usize, count: usize, t: f64) -> f6
     s
 }
 
-// The count values of `from` from position at on, to positions start, start + 1, .. A loop, since std's `copy_from_slice` misses the speed: the C library
-// copies in wide registers, after which the loops over products took up to 12 % longer.
+// The count values of `from` from position at on, to positions start, start + 1, ..
+// A loop: `copy_from_slice` is the C library's, in wide registers, after which the loops over products took up to 12 % longer.
 pub fn copy_part(from: &[f64], at: usize, to: &mut [f64], start: usize, count: usize)
     requires { (at + count ≤ length from.now) × (start + count ≤ length to.old) }
     ensures { Filled nan start count (row_at from.now at) to.old to.new }

@@ -1,4 +1,5 @@
 // Tiles: values that are worked on at once, in ROWS rows of LANES lanes each. Both stand in the type, so that the compiler keeps the values in registers.
+// The places x and at are handed on changed in each turn: a struct of them with m, stride and panel would be made anew there, and is no plainer.
 ghost use Rattle.std.specs.Prelude.{ℕ, ◌+◌, ◌*◌, ◌≤◌, ◌<◌, length, get_or};
 ghost use Rattle.std.specs.Float.{nan, binary64};
 ghost use Rattle.std.specs.Float.Ieee.{sub, mul};

@@ -9,18 +9,18 @@ use Rattle.kernels.proofs.Products.{minus_none, minus_next}
 use Rattle.kernels.proofs.columns.reduce_columns.Goals as goal
 
 pub loop-k-init : goal.loop-k-init
-loop-k-init c = (omega arith, λ j p. sym (minus_none _ _ _))
+loop-k-init g c = (omega arith, λ j p. sym (minus_none _ _ _))
 
 pub loop-k-preserved : goal.loop-k-preserved
-loop-k-preserved c =
+loop-k-preserved g c =
     let a = c.args in
     let i = a.h - 1 - c.loop-k.k in (
       omega arith,
       λ j p.
           c.step_columns-step.ensures j p
-          ∙ ap (λ (t : Float). sub binary64 t (mul binary64 (get_or a.part.now (blocked_place a.h a.b i j) nan) (get_or a.v.now i nan)))
+          ∙ ap (λ (t : Float). sub binary64 t (mul binary64 (get_or a.part.now (blocked_place a.h g.row.B i j) nan) (get_or a.v.now i nan)))
           (c.loop-k.invariant.1 j p)
           ∙ sym
-          (minus_next (λ q. get_or a.part.now (blocked_place a.h a.b (a.h - 1 - q) j) nan) (λ q. get_or a.v.now (a.h - 1 - q) nan) c.loop-k.k
+          (minus_next (λ q. get_or a.part.now (blocked_place a.h g.row.B (a.h - 1 - q) j) nan) (λ q. get_or a.v.now (a.h - 1 - q) nan) c.loop-k.k
           (get_or a.tile j nan)),
     )

@@ -8,8 +8,8 @@ use Rattle.calls.specs.Arithmetic.{minus_products}
 use Rattle.kernels.proofs.columns.reduce_columns.Given as goal
 
 abbrev pub invariant-loop-k : goal.invariant-loop-k
-invariant-loop-k l =
+invariant-loop-k g l =
     (l.k ≤ l.count)
-    × ((j : ℕ) → j < l.w →
+    × ((j : ℕ) → j < g.row.W →
     get_or l.next j nan
-    ≡ minus_products (λ q. get_or l.part (blocked_place l.h l.b (l.h - 1 - q) j) nan) (λ q. get_or l.v (l.h - 1 - q) nan) l.k (get_or l.initial.next j nan))
+    ≡ minus_products (λ q. get_or l.part (blocked_place l.h g.row.B (l.h - 1 - q) j) nan) (λ q. get_or l.v (l.h - 1 - q) nan) l.k (get_or l.initial.next j nan))

@@ -16,33 +16,33 @@ use Rattle.kernels.proofs.Runs.{square_ge, next_place, less_row, row_turn, colum
 use Rattle.kernels.proofs.columns.step_columns.Goals as goal
 
 pub overflow_sub-step : goal.overflow_sub-step
-overflow_sub-step c = omega (arith, c.triangle.ensures ∙ ap triangle c.new.ensures.0, triangle_exact c.args.b, square_ge c.args.b)
+overflow_sub-step g c = omega (arith, c.triangle.ensures ∙ ap triangle c.new.ensures.0, triangle_exact g.row.B, square_ge g.row.B)
 
 pub loop-k-init : goal.loop-k-init
-loop-k-init c =
+loop-k-init g c =
     let a = c.args in
     let none : a.i - 0 ≡ a.i = omega arith in (
       omega arith,
-      omega (arith, block_of_le a.b 0),
+      omega (arith, block_of_le g.row.B 0),
       λ some. rw none (omega (arith, c.place_in_block-x.ensures, block_start_zero a.h)),
       omega (arith, c.triangle.ensures ∙ ap triangle c.new.ensures.0),
       filled_none nan 0 _ _,
     )
 
 pub slice_bounds-next-end : goal.slice_bounds-next-end
-slice_bounds-next-end c =
+slice_bounds-next-end g c =
     omega (arith, (row_turn c.requires.rows_below (omega arith) c.loop-k.invariant.1 c.loop-k-test.true).0, c.requires.w_bound, c.loop-k-test.array_long)
 
 pub offset_bounds-part-x : goal.offset_bounds-part-x
-offset_bounds-part-x c =
+offset_bounds-part-x g c =
     omega (arith, columns_room c.args.part.now c.requires.rows_below c.loop-k.invariant.1 c.loop-k-test.true (c.loop-k.invariant.2 c.loop-k-test.true))
 
 pub slice_bounds-subtract_multiple-end : goal.slice_bounds-subtract_multiple-end
-slice_bounds-subtract_multiple-end c =
+slice_bounds-subtract_multiple-end g c =
     omega (arith, columns_room c.args.part.now c.requires.rows_below c.loop-k.invariant.1 c.loop-k-test.true (c.loop-k.invariant.2 c.loop-k-test.true))
 
 pub overflow_add-x : goal.overflow_add-x
-overflow_add-x c =
+overflow_add-x g c =
     let a = c.args in
     let rest : a.h - c.loop-k.k ≤ 4000 = omega (arith, c.requires.rows_below.order) in
     omega (
@@ -53,7 +53,7 @@ overflow_add-x c =
     )
 
 pub overflow_sub-x-in-loop-k : goal.overflow_sub-x-in-loop-k
-overflow_sub-x-in-loop-k c =
+overflow_sub-x-in-loop-k g c =
     omega (
       arith,
       (row_turn c.requires.rows_below (omega arith) c.loop-k.invariant.1 c.loop-k-test.true).4,
@@ -62,16 +62,16 @@ overflow_sub-x-in-loop-k c =
     )
 
 pub loop-k-preserved : goal.loop-k-preserved
-loop-k-preserved c =
+loop-k-preserved g c =
     let a = c.args in
     let t = row_turn c.requires.rows_below (omega arith) c.loop-k.invariant.1 c.loop-k-test.true in
     let place = c.loop-k.invariant.2 c.loop-k-test.true in
-    let first = block_of_next a.b c.loop-k.k c.requires.rows_below.block c.loop-k.invariant.1 in (
+    let first = block_of_next g.row.B c.loop-k.k c.requires.rows_below.block c.loop-k.invariant.1 in (
       t.0,
       first,
       λ more.
-          let next = block_before a.b (c.loop-k.k + a.b) a.w first c.requires.rows_below.whole more in
-          omega (arith, place, c.loop-k.invariant.3, next_place a.h a.b c.loop-k.k c.loop-k.invariant.1 a.i (omega (arith, next, c.requires.rows_below.above)) t.2),
+          let next = block_before g.row.B (c.loop-k.k + g.row.B) g.row.W first c.requires.rows_below.whole more in
+          omega (arith, place, c.loop-k.invariant.3, next_place a.h g.row.B c.loop-k.k c.loop-k.invariant.1 a.i (omega (arith, next, c.requires.rows_below.above)) t.2),
       c.loop-k.invariant.3,
       columns_turn c.args.part.now c.requires.rows_below c.loop-k.invariant.1 c.loop-k-test.true place c.loop-k-test.array_long c.requires.w_bound c.loop-k.invariant.4
           c.subtract_multiple.ensures,
@@ -84,9 +84,9 @@ done k w f t₀ t all so j h =
     rw none at (so.inside j (omega arith))
 
 pub returns-2 : goal.returns-2
-returns-2 c =
+returns-2 g c =
     let a = c.args in
     let t = row_turn c.requires.rows_below (omega arith) c.loop-k.invariant.1 c.loop-k-test.true in
-    done (c.loop-k.k + a.b) a.w (less_row a.h a.b a.i a.part.now a.y a.tile) a.tile _ (omega (arith, t.0))
+    done (c.loop-k.k + g.row.B) g.row.W (less_row a.h g.row.B a.i a.part.now a.y a.tile) a.tile _ (omega (arith, t.0))
     (columns_turn a.part.now c.requires.rows_below c.loop-k.invariant.1 c.loop-k-test.true (c.loop-k.invariant.2 c.loop-k-test.true)
     c.loop-k-test.array_long c.requires.w_bound c.loop-k.invariant.4 c.subtract_multiple.ensures)

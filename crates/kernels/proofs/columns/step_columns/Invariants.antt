@@ -9,9 +9,9 @@ use Rattle.kernels.proofs.Runs.{row_place, less_row}
 use Rattle.kernels.proofs.columns.step_columns.Given as goal
 
 abbrev pub invariant-loop-k : goal.invariant-loop-k
-invariant-loop-k l =
-    (l.k ≤ l.w) × (block_of l.b l.k ≡ l.k) × (l.k < l.w → l.x ≡ row_place l.h l.b l.i l.k) × (l.step ≡ 2 * l.b * l.b - triangle l.b)
-    × Filled nan 0 l.k (less_row l.h l.b l.i l.part l.y l.initial.next) l.initial.next l.next
+invariant-loop-k g l =
+    (l.k ≤ g.row.W) × (block_of g.row.B l.k ≡ l.k) × (l.k < g.row.W → l.x ≡ row_place l.h g.row.B l.i l.k) × (l.step ≡ 2 * g.row.B * g.row.B - triangle g.row.B)
+    × Filled nan 0 l.k (less_row l.h g.row.B l.i l.part l.y l.initial.next) l.initial.next l.next
 
 abbrev pub decreases-loop-k : goal.decreases-loop-k
-decreases-loop-k l = l.w - l.k
+decreases-loop-k g l = g.row.W - l.k
