@@ -12,7 +12,7 @@ use Rattle.shape.specs.Places.{triangle, block_of, width, blocked_place}
 use Rattle.shape.specs.Layouts.{Entry, Bijection}
 use Rattle.shape.proofs.Bijections.{blocked_bijection}
 use Rattle.shape.proofs.Blocks.{block_of_le, block_of_inside, block_of_next, width_le_block, width_full, width_last}
-use Rattle.calls.specs.Judgements.{Judgement}
+use Rattle.calls.specs.declared.Judgement.{Judgement}
 use Rattle.calls.specs.declared.Layout.TheVariants.{Blocked}
 use Rattle.calls.specs.Sequences.{every}
 use Rattle.calls.specs.Triangles.{Triangle, height, load, store}

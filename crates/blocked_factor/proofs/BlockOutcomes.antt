@@ -10,7 +10,7 @@ use lib.Ieee.{Float}
 use Rattle.binary64.specs.Kinds.{zero64}
 use Rattle.shape.specs.Places.{block_work, blocked_place}
 use Rattle.shape.specs.declared.Shape.{Shape}
-use Rattle.calls.specs.Judgements.{Judgement}
+use Rattle.calls.specs.declared.Judgement.{Judgement}
 use Rattle.calls.specs.declared.Verdict.{Verdict}
 use Rattle.calls.specs.declared.Layout.TheVariants.{Blocked}
 use Rattle.calls.specs.declared.Call.TheVariants.{Factor}

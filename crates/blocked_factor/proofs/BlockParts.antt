@@ -16,7 +16,7 @@ use Rattle.shape.proofs.Rows.{place_in_block_row, row_start_under}
 use Rattle.shape.proofs.Columns.{triangle_exact}
 use Rattle.shape.proofs.Blocks.{block_of_le, block_of_lt, block_of_block, block_of_next, block_before, block_end, width_le, width_le_block, width_full, width_last, blocked_place_at, blocked_place_block}
 use Rattle.shape.proofs.Bounds.{block_start_mono}
-use Rattle.calls.specs.Judgements.{Judgement}
+use Rattle.calls.specs.declared.Judgement.{Judgement}
 use Rattle.calls.specs.Triangles.{Triangle, entry}
 use Rattle.calls.specs.Arithmetic.{minus_products}
 use Rattle.calls.specs.Refusals.{accepted}

@@ -21,7 +21,8 @@ use Rattle.calls.specs.Sequences.{grow, tabulate, all, every}
 use Rattle.calls.specs.Triangles.{Triangle, entry, height}
 use Rattle.calls.specs.Arithmetic.{pivot, quotient, below}
 use Rattle.calls.specs.Refusals.{success, accepted, refusal, lowest_refusal, rule11, column_rules, column_verdict}
-use Rattle.calls.specs.Judgements.{Judgement, judgement}
+use Rattle.calls.specs.declared.Judgement.{Judgement}
+use Rattle.calls.specs.Judgements.{judgement}
 use Rattle.calls.specs.Calls.{judge_column, exact_column}
 use Rattle.calls.proofs.Sequences.{length_tabulate, get_d_tabulate, tabulate_same, all_append, all_at, all_of}
 use Rattle.calls.proofs.Columns.{columns, entry_quotient}

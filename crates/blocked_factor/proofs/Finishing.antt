@@ -18,7 +18,8 @@ use Rattle.binary64.specs.declared.Pivot.TheVariants.{Root, Refused}
 use Rattle.calls.specs.Triangles.{Triangle}
 use Rattle.calls.specs.Arithmetic.{minus_products}
 use Rattle.calls.specs.Refusals.{column_rules, column_exact}
-use Rattle.calls.specs.Judgements.{Judgement, judgement, Joined}
+use Rattle.calls.specs.declared.Judgement.{Judgement}
+use Rattle.calls.specs.Judgements.{judgement, Joined}
 use Rattle.calls.specs.Calls.{exact_column}
 use Rattle.kernels.specs.Kernels.{Filled, Replaced, Scattered, row_at}
 use Rattle.kernels.proofs.Parts.{length_part, part_replaced}

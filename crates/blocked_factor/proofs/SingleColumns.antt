@@ -13,7 +13,7 @@ use Rattle.shape.specs.Places.{triangle, packed_place, blocked_place, block_work
 use Rattle.shape.specs.Layouts.{Entry}
 use Rattle.shape.proofs.Blocks.{block_of_one, blocked_place_one}
 use Rattle.shape.proofs.Bijections.{packed_bijection, blocked_bijection}
-use Rattle.calls.specs.Judgements.{Judgement}
+use Rattle.calls.specs.declared.Judgement.{Judgement}
 use Rattle.calls.specs.declared.Verdict.{Verdict}
 use Rattle.calls.specs.declared.Layout.TheVariants.{Packed, Blocked}
 use Rattle.calls.specs.Triangles.{Triangle, height, load, store}

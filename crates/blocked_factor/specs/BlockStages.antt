@@ -5,7 +5,8 @@ use Rattle.calls.specs.declared.Verdict.{Verdict}
 use Rattle.calls.specs.Triangles.{Triangle, entry, height}
 use Rattle.calls.specs.Arithmetic.{minus_products, pivot, cholesky}
 use Rattle.calls.specs.Refusals.{success, lowest_refusal, column_rules}
-use Rattle.calls.specs.Judgements.{Judgement, judged_to}
+use Rattle.calls.specs.declared.Judgement.{Judgement}
+use Rattle.calls.specs.Judgements.{judged_to}
 use Rattle.calls.specs.Calls.{judge_column, exact_column}
 use Rattle.blocked_factor.specs.BlockColumns.{row_start}
 

@@ -4,7 +4,7 @@ use Rattle.std.specs.Float.{nan}
 use Rattle.shape.specs.Bounds.{max_order, max_block}
 use Rattle.shape.specs.Places.{triangle, block_of, block_start, width, blocked_place, block_work}
 use Rattle.shape.specs.Layouts.{Entry}
-use Rattle.calls.specs.Judgements.{Judgement}
+use Rattle.calls.specs.declared.Judgement.{Judgement}
 use Rattle.calls.specs.Triangles.{Triangle, entry, height, load, store}
 use Rattle.calls.specs.Arithmetic.{cholesky}
 use Rattle.calls.specs.Refusals.{success, accepted, lowest_refusal}

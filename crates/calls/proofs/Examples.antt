@@ -14,7 +14,7 @@ use Rattle.shape.specs.Places.{triangle, packed_place, blocked_place, block_work
 use Rattle.shape.specs.declared.Shape.{Shape}
 use Rattle.calls.specs.declared.CallResult.{CallResult}
 use Rattle.calls.specs.declared.Verdict.{Verdict}
-use Rattle.calls.specs.Judgements.{Judgement}
+use Rattle.calls.specs.declared.Judgement.{Judgement}
 use Rattle.calls.specs.declared.states.State.TheVariants.{Raw, Factored}
 use Rattle.calls.specs.declared.Layout.{Layout}
 use Rattle.calls.specs.declared.Layout.TheVariants.{Packed, Blocked}

@@ -13,7 +13,7 @@ use lib.Ieee.{Float}
 use Rattle.binary64.specs.Kinds.{zero64}
 use Rattle.shape.specs.declared.Shape.{Shape}
 use Rattle.calls.specs.declared.Verdict.{Verdict}
-use Rattle.calls.specs.Judgements.{Judgement}
+use Rattle.calls.specs.declared.Judgement.{Judgement}
 use Rattle.calls.specs.declared.CallResult.{CallResult}
 use Rattle.calls.specs.declared.Layout.{Layout}
 use Rattle.calls.specs.declared.Layout.TheVariants.{Packed, Blocked}

@@ -15,7 +15,8 @@ use Rattle.calls.specs.declared.Call.TheVariants.{Rearranger, Factor, Solver}
 use Rattle.calls.specs.declared.states.State.TheVariants.{Spent}
 use Rattle.calls.specs.States.{state_number, next, given_by}
 use Rattle.calls.specs.Refusals.{needed_work, success, accepted, first_refusal, lowest_refusal, rule1, rule2, rule15, rule3, rule4, rule5, rule6, rule7, rule8, rule9, column_verdict, column_exact, rule12}
-use Rattle.calls.specs.Judgements.{Judgement, judgement}
+use Rattle.calls.specs.declared.Judgement.{Judgement}
+use Rattle.calls.specs.Judgements.{judgement}
 
 -- after 10, 11 and 16 the matrix is spent
 abbrev pub spends : Verdict → Bool

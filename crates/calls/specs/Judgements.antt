@@ -1,12 +1,9 @@
 -- What the columns of a factor are judged to: the verdict, and whether none is refused and every root is exact.
 use Rattle.std.specs.Prelude.{ℕ, ◌+◌, ◌≡◌, Bool, ◌&&◌}
 use Rattle.calls.specs.declared.Verdict.{Verdict}
+use Rattle.calls.specs.declared.Judgement.{Judgement}
 use Rattle.calls.specs.Sequences.{every}
 use Rattle.calls.specs.Refusals.{accepted, lowest_refusal}
-
-pub record Judgement : Type 0 where
-  pub verdict : Verdict
-  pub exact : Bool
 
 abbrev pub judgement : Verdict → Bool → Judgement
 judgement verdict exact = record { verdict = verdict; exact = accepted verdict && exact }

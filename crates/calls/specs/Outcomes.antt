@@ -6,7 +6,7 @@ use Rattle.calls.specs.declared.outcomes.Refusal.TheVariants.{Order, BlockLength
 use Rattle.calls.specs.declared.Verdict.{Verdict}
 use Rattle.calls.specs.declared.Success.{Success}
 use Rattle.calls.specs.Refusals.{success, refusal}
-use Rattle.calls.specs.Judgements.{Judgement}
+use Rattle.calls.specs.declared.Judgement.{Judgement}
 
 abbrev pub verdict_of_refusal : Refusal → Verdict
 verdict_of_refusal Order = refusal 1 0 zero64

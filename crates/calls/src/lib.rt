@@ -1,14 +1,17 @@
-// What the calls share: the layouts, the kinds of calls, and a call's result. The states are in states.rt, the refusals in outcomes.rt.
+// What the calls share: the layouts, the kinds of calls, and a call's result. The states are in states.rt, the refusals in outcomes.rt, and in judgements.rt what
+// a call or its columns are judged to, in each form that says it.
 #![tactic(auto)]
 
 ghost use Rattle.std.specs.Prelude.{◌≡◌};
+ghost use Rattle.calls.specs.Refusals as Refusals;
 ghost use Rattle.calls.specs.Calls as Calls;
 ghost use Rattle.calls.specs.Judgements.{Joined};
-ghost use Rattle.calls.specs.Outcomes.{judgement_of, answer_of};
 
+mod judgements;
 mod outcomes;
 mod states;
 
+pub use judgements::{Answer, JudgedColumns};
 pub use outcomes::Refusal;
 use shape::Shape;
 use states::State;
@@ -45,6 +48,13 @@ pub struct Verdict {
     pub code: usize,
     pub place: usize,
     pub value: f64,
+}
+
+// What columns or a call are judged to: the verdict, and whether nothing is refused and every root is exact.
+#[derive(Clone, Copy)]
+pub struct Judgement {
+    pub verdict: Verdict,
+    pub exact: bool,
 }
 
 // What a call that is not refused gives beside its memories: the value of a variance, and whether every root of a factor is exact.
@@ -86,49 +96,60 @@ impl From<CallResult> for Verdict {
 }
 
 // The columns before one and that one itself, judged together: none after the first that is refused decides, and all roots are exact or not.
-pub fn joined(before: Result<bool, Refusal>, column: Result<bool, Refusal>) -> Result<bool, Refusal>
-    ensures { Joined (judgement_of before) (judgement_of column) (judgement_of result) }
+pub fn joined<C: JudgedColumns>(before: C, column: C) -> C
+    ensures { Joined (C.judged before) (C.judged column) (C.judged result) }
 {
-    Ok(before? & column?)
+    before.join(column)
+}
+
+pub fn accepted(verdict: Verdict) -> bool
+    ensures { result ≡ Refusals.accepted verdict }
+{
+    verdict.code == 0
+}
+
+// Whether the matrix is spent: after 10, 11 and 16 it may be neither what it was nor a factor.
+fn spends(verdict: Verdict) -> bool
+    ensures { result ≡ Calls.spends verdict }
+{
+    matches!(verdict.code, 10 | 11 | 16)
 }
 
 // The number of the state that a call returns: its new one on success.
-fn state_after(call: Call, state: usize, outcome: Result<Success, Refusal>) -> usize
-    ensures { result ≡ Calls.state_after call state (answer_of outcome).verdict }
+fn state_after(call: Call, state: usize, verdict: Verdict) -> usize
+    ensures { result ≡ Calls.state_after call state verdict }
 {
-    match outcome {
-        Ok(_) => match next(call, state) {
+    if accepted(verdict) {
+        return match next(call, state) {
             Some(given) => usize::from(given),
             None => state,
-        },
-        Err(refusal) if refusal.spends() => usize::from(State::Spent),
-        Err(_) => state,
+        };
     }
+    if spends(verdict) {
+        return usize::from(State::Spent);
+    }
+    state
 }
 
 // Every call makes its result here.
-pub fn result(call: Call, shape: Shape, outcome: Result<Success, Refusal>) -> CallResult
-    ensures { result ≡ Calls.judged_result call shape (answer_of outcome) }
+pub fn judged_result(call: Call, shape: Shape, judgement: Judgement) -> CallResult
+    ensures { result ≡ Calls.judged_result call shape judgement }
 {
-    let state = state_after(call, shape.state, outcome);
-    let shape = Shape { state, ..shape };
-    match outcome {
-        Ok(success) => CallResult {
-            code: 0,
-            place: 0,
-            value: success.value,
-            exact: success.exact,
-            shape,
+    let Judgement { verdict, exact } = judgement;
+    CallResult {
+        code: verdict.code,
+        place: verdict.place,
+        value: verdict.value,
+        exact,
+        shape: Shape {
+            state: state_after(call, shape.state, verdict),
+            ..shape
         },
-        Err(refusal) => {
-            let verdict = Verdict::from(refusal);
-            CallResult {
-                code: verdict.code,
-                place: verdict.place,
-                value: verdict.value,
-                exact: false,
-                shape,
-            }
-        }
     }
+}
+
+pub fn result<A: Answer>(call: Call, shape: Shape, answer: A) -> CallResult
+    ensures { result ≡ Calls.judged_result call shape (A.answer answer) }
+{
+    judged_result(call, shape, answer.judgement())
 }

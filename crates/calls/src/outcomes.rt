@@ -3,7 +3,7 @@ ghost use Rattle.std.specs.Prelude.{◌≡◌};
 ghost use Rattle.calls.specs.Calls as Calls;
 ghost use Rattle.calls.specs.Outcomes.{verdict_of_refusal};
 
-use crate::Verdict;
+use crate::{Verdict, spends};
 
 // The conditions of the list of refusals, each with the place and the value that it states.
 #[derive(Clone, Copy)]
@@ -55,13 +55,10 @@ impl From<Refusal> for Verdict {
 }
 
 impl Refusal {
-    // Whether the matrix is spent: after 10, 11 and 16 it may be neither what it was nor a factor.
+    // Whether the matrix is spent.
     pub fn spends(self) -> bool
         ensures { result ≡ Calls.spends (verdict_of_refusal self) }
     {
-        matches!(
-            self,
-            Refusal::Pivot(_, _) | Refusal::Overflow(_) | Refusal::Weak(_, _)
-        )
+        spends(Verdict::from(self))
     }
 }

@@ -8,7 +8,7 @@ ghost use Rattle.calls.specs.Sequences.{all};
 mod columns;
 mod rules;
 
-pub use columns::judge_column;
+pub use columns::{judge_column, refused_below};
 pub use rules::{
     Values, check_diagonal, check_factor, check_finite, check_rearranger, check_sizes, check_solver,
 };

@@ -14,7 +14,7 @@ use Rattle.calls.specs.declared.Call.TheVariants.{Factor}
 use Rattle.calls.specs.Triangles.{height, place_of, store}
 use Rattle.calls.specs.Arithmetic.{cholesky}
 use Rattle.calls.specs.Refusals.{accepted}
-use Rattle.calls.specs.Judgements.{Judgement}
+use Rattle.calls.specs.declared.Judgement.{Judgement}
 use Rattle.calls.specs.Calls.{DoneAs, judged_result, clear, factor_checks, factored, factorize}
 use Rattle.plain_factor.specs.Steps.{held, Factored}
 

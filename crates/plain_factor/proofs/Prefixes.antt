@@ -18,7 +18,8 @@ use Rattle.calls.specs.Sequences.{iterate, grow, all, every}
 use Rattle.calls.specs.Triangles.{Triangle, entry, height, store_column, store}
 use Rattle.calls.specs.Arithmetic.{minus_products, pivot, quotient, below, factor_column, cholesky}
 use Rattle.calls.specs.Refusals.{success, accepted, lowest_refusal, column_rules, column_verdict, column_exact}
-use Rattle.calls.specs.Judgements.{Judgement, judgement}
+use Rattle.calls.specs.declared.Judgement.{Judgement}
+use Rattle.calls.specs.Judgements.{judgement, judged_to, Joined}
 use Rattle.calls.specs.Calls.{judge_column, exact_column, columns_verdict, columns_exact}
 use Rattle.calls.proofs.Sequences.{tabulate_same, iterate_alike}
 use Rattle.calls.proofs.Triangles.{entry_load, stored, store_same, store_other}
@@ -177,3 +178,28 @@ module _ (n : ℕ) (m : List Float) (size : length m ≡ triangle n) (j : ℕ) (
     lowest_next (rule_of n m) j before ∙ rules_success j entered_here pivot_here finite_below (rw (rule_is t) tt),
     rw (add-one j, column_is, rule_is t) refl,
   )
+
+  -- what the columns up to this one are judged to, this one joined to those before it
+  module _ (exact : Bool) (joined : Judgement) (roots : exact ≡ every (exact_of n m) j) (law : Joined (record { verdict = success; exact = exact }) r joined) where
+    joined_to : joined ≡ judged_to (rule_of n m) (exact_of n m) (j + 1)
+    joined_to = law (rule_of n m) (exact_of n m) j (rw (before, roots) refl) column_is
+
+    joined_rule : joined.verdict ≡ rule_of n m j
+    joined_rule = ap (λ (x : Judgement). x.verdict) joined_to ∙ lowest_next (rule_of n m) j before
+
+    joined_accepts : {t : Bool} → accepted joined.verdict ≡ t → accepted r.verdict ≡ t
+    joined_accepts e = ap (λ (x : Judgement). accepted x.verdict) column_is ∙ ap accepted (sym joined_rule) ∙ e
+
+    pub joined_refused : accepted joined.verdict ≡ false → Factored n m joined s'
+    joined_refused f =
+        let refused : accepted (rule_of n m j) ≡ false = rule_is (joined_accepts f) in
+        let here : joined ≡ record { verdict = rule_of n m j; exact = false } = rw (lowest_next (rule_of n m) j before, refused) at joined_to in
+        let column : r ≡ record { verdict = rule_of n m j; exact = false } = rw refused at column_is in
+        rw (here ∙ sym column) (columns_refused (joined_accepts f))
+
+    pub joined_continued :
+        accepted joined.verdict ≡ true →
+        (s' ≡ prefix_of n m (j + 1)) × (lowest_refusal (rule_of n m) (j + 1) ≡ success) × (joined.exact ≡ every (exact_of n m) (j + 1))
+    joined_continued t =
+        let next = columns_continued (joined_accepts t) in
+        (next.0, next.1, ap (λ (x : Judgement). x.exact) joined_to ∙ rw next.1 refl)

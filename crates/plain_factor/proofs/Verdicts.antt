@@ -25,7 +25,8 @@ use Rattle.calls.specs.Sequences.{all}
 use Rattle.calls.specs.Triangles.{Triangle, entry, height, store_column}
 use Rattle.calls.specs.Arithmetic.{minus_products, pivot, quotient, below, factor_column}
 use Rattle.calls.specs.Refusals.{success, accepted, column_rules, column_verdict, column_exact}
-use Rattle.calls.specs.Judgements.{Judgement, judgement}
+use Rattle.calls.specs.declared.Judgement.{Judgement}
+use Rattle.calls.specs.Judgements.{judgement}
 use Rattle.calls.proofs.Sequences.{tabulate_of}
 use Rattle.calls.proofs.Triangles.{entry_load, column_other}
 use Rattle.calls.proofs.Columns.{length_column, products_same}

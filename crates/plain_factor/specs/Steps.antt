@@ -11,7 +11,8 @@ use Rattle.calls.specs.Sequences.{all}
 use Rattle.calls.specs.Triangles.{Triangle, height, load, store_column, store}
 use Rattle.calls.specs.Arithmetic.{minus_products, factor_column, cholesky}
 use Rattle.calls.specs.Refusals.{accepted, column_verdict, column_exact}
-use Rattle.calls.specs.Judgements.{Judgement, judgement}
+use Rattle.calls.specs.declared.Judgement.{Judgement}
+use Rattle.calls.specs.Judgements.{judgement}
 use Rattle.calls.specs.Calls.{columns_judged}
 use Rattle.kernels.specs.Kernels.{Filled}
 

@@ -317,7 +317,7 @@ fn factor_columns(matrix: &mut [f64], work: &mut [f64], n: usize) -> Result<bool
     for j in 0..n {
         let column = Column { matrix, n, j };
         top = column.form(work, top);
-        exact &= finish_column(matrix, work, n, j)?;
+        exact = calls::joined(Ok(exact), finish_column(matrix, work, n, j))?;
     }
     Ok(exact)
 }
