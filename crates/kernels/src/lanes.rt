@@ -53,16 +53,24 @@ pub fn store<const N: usize>(v: &mut [f64], at: usize, values: [f64; N])
     store_part(v, at, values, N);
 }
 
-// N values of x, one at each position at[s] + k.
+// The first count of N values of x, one at each position at[s] + k; the others are zeros.
+pub fn gather_part<const N: usize>(x: &[f64], at: [usize; N], k: usize, count: usize) -> [f64; N]
+    requires count_bound { count ≤ N }
+    requires by_index { (s : ℕ) → s < count → get_or at s 0 + k < length x.now }
+    ensures { (s : ℕ) → s < count → get_or result s nan ≡ get_or x.now (get_or at.entry s 0 + k) nan }
+{
+    let mut values = [0.0; N];
+    for s in 0..count {
+        values[s] = x[at[s] + k];
+    }
+    values
+}
+
 pub fn gather<const N: usize>(x: &[f64], at: [usize; N], k: usize) -> [f64; N]
     requires { (s : ℕ) → s < N → get_or at s 0 + k < length x.now }
     ensures { (s : ℕ) → s < N → get_or result s nan ≡ get_or x.now (get_or at.entry s 0 + k) nan }
 {
-    let mut values = [0.0; N];
-    for s in 0..N {
-        values[s] = x[at[s] + k];
-    }
-    values
+    gather_part(x, at, k, N)
 }
 
 // The same positions of v, which differ, are set to the values.
@@ -76,16 +84,28 @@ pub fn scatter<const N: usize>(v: &mut [f64], at: [usize; N], k: usize, values: 
     }
 }
 
-// The packed places of columns s .. s + N − 1 of row r.
+// The packed places of columns s .. s + count − 1 of row r; the others are zeros.
+pub fn packed_places_part<const N: usize>(
+    shape: Shape,
+    r: usize,
+    s: usize,
+    count: usize,
+) -> [usize; N]
+    requires { (shape.order ≤ max_order) × (r < shape.order) × (s + count ≤ r + 1) × (count ≤ N) }
+    ensures { (k : ℕ) → k < count → get_or result k 0 ≡ packed_place shape.order r (s + k) }
+{
+    let mut places = [0; N];
+    for k in 0..count {
+        places[k] = shape.packed_place(r, s + k);
+    }
+    places
+}
+
 pub fn packed_places<const N: usize>(shape: Shape, r: usize, s: usize) -> [usize; N]
     requires { (shape.order ≤ max_order) × (r < shape.order) × (s + N ≤ r + 1) }
     ensures { (k : ℕ) → k < N → get_or result k 0 ≡ packed_place shape.order r (s + k) }
 {
-    let mut places = [0; N];
-    for k in 0..N {
-        places[k] = shape.packed_place(r, s + k);
-    }
-    places
+    packed_places_part(shape, r, s, N)
 }
 
 // The values less the products of x[at + s] and y.
