@@ -19,6 +19,7 @@ pub struct Half {
 impl Half {
     // Column j of rows first .. end − 1.
     #[tactic(auto, using(crate::proofs::Halves::source_below, crate::proofs::Halves::step_le, shape::proofs::Bounds::triangle_le))]
+    #[inline(always)]
     fn move_column(self, j: usize, first: usize, end: usize, source: &[f64], target: &mut [f64])
         requires j_in_half { (self.left ≤ j) × (j < self.right) }
         requires rows { (j ≤ first) × (first ≤ end) × (end ≤ self.route.shape.order) × (first < self.route.shape.order) }
@@ -34,7 +35,8 @@ impl Half {
         }
     }
 
-    // Columns left .. right − 1 of rows first .. end − 1, each from its diagonal down.
+    // Columns left .. right − 1 of rows first .. end − 1, each from its diagonal down. Inlined, so that the loop knows the conversion.
+    #[inline(always)]
     pub fn move_columns(
         self,
         left: usize,

@@ -49,6 +49,7 @@ impl BlockColumn {
     {
         self.move_rows(memory, work);
         let length = self.part.block_start(self.part.block);
-        memory[..length].copy_from_slice(&work[..length]);
+        // `copy_from_slice` calls the C library's memmove, which the archive for C asked for nowhere else.
+        kernels::copy(&work[..length], &mut memory[..length]);
     }
 }
