@@ -4,7 +4,7 @@ use native.Mathlib.Omega.{arith}
 use mathlib.Core.Path.{◌≡◌, refl, ap}
 use mathlib.Core.Bool.{Bool, true, false}
 use mathlib.Core.List.{List, [], ◌++◌}
-use lib.ListN.{length, get_or, length-append}
+use lib.ListN.{length, get_or, drop, length-append}
 use Rattle.calls.specs.Sequences.{tabulate}
 use Rattle.calls.proofs.Sequences.{length_tabulate}
 use Rattle.shape.specs.Places.{triangle}
@@ -15,7 +15,7 @@ use Rattle.job_format.specs.declared.Fault.{Fault}
 use Rattle.std.specs.Prelude.{Result, Ok}
 use Rattle.std.specs.Result.{IsErrAnd}
 use Rattle.std.proofs.lemmas.Result.{err_from_is_err_and}
-use Rattle.job_format.specs.Reading.{fault, found, needless}
+use Rattle.job_format.specs.Reading.{Parsed, fault, found, needless}
 use Rattle.job_format.specs.Format.{Contents, InBounds, read_job}
 use Rattle.text.specs.Writing.{Written, pieces}
 use Rattle.job_format.specs.Rewriting.{bytes_of, sizes_bytes, bits_from, stands, map_of, value_bytes, values_bytes, job_bytes, written, rewritten, Rewrites}
@@ -103,3 +103,10 @@ module _ (file a : List ℕ) where
   rewrites_job job at end b e w =
       let n : end ≡ length (job_bytes job) = omega (arith, w.next) in
       rw (← e) (record { answer = ap Ok n; memory = w.memory })
+
+-- what was written lies within the memory
+pub rewrites_within : (p : Parsed (List ℕ)) (a b : List ℕ) (r : Result ℕ Fault) (end : ℕ) → r ≡ Ok end → Rewrites p a r b → end ≤ length b
+rewrites_within (fault f) a b r end j w = let z : ◌≡◌ {A = ℕ} 0 1 = cc w.answer in absurd (omega arith)
+rewrites_within (found text at) a b r end j w =
+    let n : end ≡ length text = cc w.answer in
+    omega (arith, ap length w.memory, length-append text (drop (0 + length text) a))
