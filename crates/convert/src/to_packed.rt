@@ -6,15 +6,7 @@ ghost use Rattle.convert.specs.Halves as Halves;
 ghost use Rattle.convert.specs.Halves.{Held, Moved};
 
 use crate::half::Half;
-use kernels::{gather, store};
-
-// N places, `step` apart. No place of a matrix is above 8,002,000.
-fn apart<const N: usize>(from: usize, step: usize) -> [usize; N]
-    requires { (from ≤ 8002000) × (step ≤ 8002000) × (N ≤ 4) }
-    ensures { (k : ℕ) → k < N → get_or result k 0 ≡ from + k * step }
-{
-    std::array::from_fn(|k| from + k * step)
-}
+use kernels::{apart, gather, store};
 
 impl Half {
     // The places of the first column in the N rows from i on.

@@ -53,6 +53,18 @@ pub fn store<const N: usize>(v: &mut [f64], at: usize, values: [f64; N])
     store_part(v, at, values, N);
 }
 
+// N positions, `step` apart. No place of a matrix is above 8,002,000.
+pub fn apart<const N: usize>(from: usize, step: usize) -> [usize; N]
+    requires { (from ≤ 8002000) × (step ≤ 8002000) × (N ≤ 16) }
+    ensures { (s : ℕ) → s < N → get_or result s 0 ≡ from + s * step }
+{
+    let mut places = [0; N];
+    for s in 0..N {
+        places[s] = from + s * step;
+    }
+    places
+}
+
 // The first count of N values of x, one at each position at[s] + k; the others are zeros.
 pub fn gather_part<const N: usize>(x: &[f64], at: [usize; N], k: usize, count: usize) -> [f64; N]
     requires count_bound { count ≤ N }

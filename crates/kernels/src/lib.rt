@@ -13,9 +13,9 @@ mod tiles;
 
 pub use columns::reduce_columns;
 pub use lanes::{
-    divide, gather, gather_part, load, load_part, pack_lane, packed_places, packed_places_part,
-    quotients, scatter, step, store, store_part, subtract_falling, subtract_rising, update,
-    update_part,
+    apart, divide, gather, gather_part, load, load_part, pack_lane, packed_places,
+    packed_places_part, quotients, scatter, step, store, store_part, subtract_falling,
+    subtract_rising, update, update_part,
 };
 pub use tiles::{Run, load_tile, reduce_run, store_tile};
 

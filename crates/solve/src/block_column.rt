@@ -4,7 +4,7 @@ ghost use Rattle.std.specs.Float.{nan};
 ghost use Rattle.shape.specs.Bounds.{max_order};
 ghost use Rattle.shape.specs.Places.{block_start, place_in_block};
 
-use kernels::{gather, load, scatter, step, store, subtract_multiple, subtract_rising};
+use kernels::{apart, gather, load, scatter, step, store, subtract_multiple, subtract_rising};
 use shape::Shape;
 
 // A block column without its first `skip` rows and columns: h rows and w columns are left, and the first w rows are their triangle. The part of memory
@@ -19,14 +19,6 @@ pub struct BlockColumn<'a> {
     pub ghost columns: { 0 < w },
     pub ghost fits: { w ≤ h },
     pub ghost values: { block_start (skip + h) (skip + w) ≤ length part.now },
-}
-
-// Eight positions, `step` apart. No place of a matrix is above 8,002,000.
-fn apart8(from: usize, step: usize) -> [usize; 8]
-    requires { (from ≤ 8002000) × (step ≤ 8002000) }
-    ensures { (s : ℕ) → s < 8 → get_or result s 0 ≡ from + s * step }
-{
-    std::array::from_fn(|s| from + s * step)
 }
 
 impl BlockColumn<'_> {
@@ -65,8 +57,8 @@ impl BlockColumn<'_> {
         let w = self.w;
         let first = w + t;
         let from = self.place(first, 0);
-        let places = apart8(from, q * (self.skip + w));
-        let rows = apart8(first, q);
+        let places = apart::<8>(from, q * (self.skip + w));
+        let rows = apart::<8>(first, q);
         let values = subtract_rising(gather(work, rows, 0), self.part, places, &work[..w]);
         scatter(work, rows, 0, values);
     }

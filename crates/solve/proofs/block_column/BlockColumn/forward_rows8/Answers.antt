@@ -19,10 +19,11 @@ bounds block q t from less fits start =
       omega (arith, most, step_le block q (omega arith)),
     )
 
-pub apart8-places-requires : goal.apart8-places-requires
-apart8-places-requires c =
+pub apart-places-requires : goal.apart-places-requires
+apart-places-requires c =
     let a = c.args in
-    bounds a.self.now a.q a.t c.place-from.result (omega arith) (omega arith) (rw (add-zero a.self.now.skip) at c.place-from.ensures)
+    let inside = bounds a.self.now a.q a.t c.place-from.result (omega arith) (omega arith) (rw (add-zero a.self.now.skip) at c.place-from.ensures) in
+    (omega arith, (inside.0, inside.1, omega arith))
 
 pub subtract_rising-values-requires : goal.subtract_rising-values-requires
 subtract_rising-values-requires c =
@@ -35,7 +36,7 @@ subtract_rising-values-requires c =
             let inside = apart_inside a.q s a.t few c.requires.t_lt_q.0 in
             simp length-take (omega (
               arith,
-              c.apart8-places.ensures s few ∙ place_apart8 a.self.now a.q a.t s _ from,
+              c.apart-places.ensures s few ∙ place_apart8 a.self.now a.q a.t s _ from,
               inside,
               room_under a.self.now (a.self.now.w + a.t + s * a.q) (omega arith) (omega (arith, inside)),
             )),
@@ -47,7 +48,7 @@ returns c =
     let a = c.args in
     let from = rw (add-zero a.self.now.skip) at c.place-from.ensures in
     apart8_done a.self.now a.q a.t a.work.now c.gather.result c.subtract_rising-values.result _
-    (λ (s : ℕ). get_or c.apart8-places.result s 0)
-    (λ (s : ℕ). get_or c.apart8-rows.result s 0) (omega arith) c.apart8-rows.ensures c.gather.ensures
-    (λ s few. c.apart8-places.ensures s few ∙ place_apart8 a.self.now a.q a.t s _ from) c.subtract_rising-values.ensures
+    (λ (s : ℕ). get_or c.apart-places.result s 0)
+    (λ (s : ℕ). get_or c.apart-rows.result s 0) (omega arith) c.apart-rows.ensures c.gather.ensures
+    (λ s few. c.apart-places.ensures s few ∙ place_apart8 a.self.now a.q a.t s _ from) c.subtract_rising-values.ensures
     c.scatter.ensures
